@@ -1,0 +1,2 @@
+pub use Rattle.word_ring.specs.Words
+pub use Rattle.word_ring.specs.Rows

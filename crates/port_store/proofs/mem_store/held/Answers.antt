@@ -1,0 +1,10 @@
+use Rattle.std.proofs.Common.{sym, ap, ◌∙◌, Some}
+use Rattle.std.specs.Option.{option_map}
+use Rattle.port_store.proofs.KeptLemmas.{get-files_of}
+use Rattle.port_store.proofs.mem_store.held.Goals as goal
+
+pub returns-in-Some : goal.returns-in-Some
+returns-in-Some c = ap Some c.as_slice.ensures.value ∙ ap (option_map (λ bytes. bytes.items)) c.in-Some.ensures.value ∙ sym (get-files_of c.args.files.now c.args.name.now)
+
+pub returns-in-None : goal.returns-in-None
+returns-in-None c = ap (option_map (λ bytes. bytes.items)) c.in-None.ensures.value ∙ sym (get-files_of c.args.files.now c.args.name.now)

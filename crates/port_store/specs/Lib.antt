@@ -1,0 +1,7 @@
+pub mod Files
+pub mod Faults
+pub mod Refusals
+pub mod Listed
+pub mod Memory
+pub mod Kept
+pub mod Collected

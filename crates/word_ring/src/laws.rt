@@ -1,0 +1,27 @@
+//! The laws of words, as contracts that a proof may call for.
+
+ghost use Rattle.word_ring.specs.Words.{RingLaws, ResidueLaws, SizeLaws, CentredLaws};
+
+/// Words are a commutative ring.
+#[inline]
+pub fn ring_laws()
+    ensures { RingLaws }
+{}
+
+/// The operations see their arguments modulo 2^64.
+#[inline]
+pub fn residue_laws()
+    ensures { ResidueLaws }
+{}
+
+/// How the operations change the distance to 0, on which every bound on noise stands.
+#[inline]
+pub fn size_laws()
+    ensures { SizeLaws }
+{}
+
+/// The centred number is the one congruent to the word in [-2^63, 2^63).
+#[inline]
+pub fn centred_laws()
+    ensures { CentredLaws }
+{}
