@@ -1,0 +1,15 @@
+pub mod ReadingLemmas
+pub mod NumberLemmas
+pub mod CircuitLemmas
+pub mod NumberTexts
+pub mod CircuitLines
+pub mod CircuitResults
+pub mod CircuitWhole
+pub mod RunLemmas
+pub mod StepLemmas
+pub mod OutputLemmas
+pub mod CiphertextWords
+pub mod CiphertextPieces
+pub mod CiphertextLoop
+pub mod CiphertextTaken
+pub mod CiphertextAgain

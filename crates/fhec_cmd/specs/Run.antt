@@ -1,0 +1,89 @@
+-- `run`: the words of the output, computed from a circuit and a file of ciphertexts.
+use Rattle.std.specs.Prelude.{ℕ, ◌+◌, ◌^◌, ◌==◌, Bool, false, ◌&&◌, List, [], ◌∷◌, replicate, Result, Ok, ℤ}
+use Rattle.std.specs.Ordering.{int_eq}
+use Rattle.std.specs.Str.{bytes_eq}
+use Rattle.sha2.specs.Sha256.{sha256}
+use Rattle.word_ring.specs.Rows.{combined}
+use Rattle.port_store.specs.Files.{Bytes, Files}
+use Rattle.fhec_cmd.specs.declared.circuit.Circuit.{Circuit}
+use Rattle.fhec_cmd.specs.declared.status.Status.{Status}
+use Rattle.fhec_cmd.specs.declared.status.Status.TheVariants as status
+use Rattle.fhec_cmd.specs.declared.status.CircuitKind.TheVariants as circuit_kind
+use Rattle.fhec_cmd.specs.declared.status.FileKind.TheVariants as file_kind
+use Rattle.fhec_cmd.specs.declared.cipher_file.fault.FileFault.TheVariants as file_fault
+use Rattle.fhec_cmd.specs.declared.cipher_file.fault.FileRefusal.{FileRefusal}
+use Rattle.fhec_cmd.specs.declared.cipher_file.fault.FileRefusal.TheVariants as refusal
+use Rattle.fhec_cmd.specs.Circuit.{dimension, range_of_sum, params_text}
+use Rattle.fhec_cmd.specs.CircuitReading.{circuit_of}
+use Rattle.fhec_cmd.specs.CiphertextFile.{CiphertextFile, ciphertext_bytes}
+use Rattle.fhec_cmd.specs.CiphertextReading.{ciphertext_file_of}
+use Rattle.fhec_cmd.specs.CommandLine.{RunWords, is_no_eval}
+use Rattle.fhec_cmd.specs.Outcome.{Outcome, finished, outcome_from, ◌>>=◌, unless, found, reading}
+
+-- the greatest circuit file, in bytes
+abbrev pub circuit_limit : ℕ
+circuit_limit = 2 ^ 27
+
+-- the greatest key or ciphertext file, in bytes
+abbrev pub file_limit : ℕ
+file_limit = 2 ^ 29
+
+-- the SHA-256 of the parameter lines, which ties a file to its parameters
+abbrev pub params_digest : Circuit → Bytes
+params_digest c = sha256 (params_text c.params)
+
+-- the ranges are those of the inputs, in order
+abbrev pub are_input_ranges : Circuit → List (ℤ × ℤ) → Bool
+are_input_ranges c (first ∷ second ∷ []) = (int_eq first.0 c.first.lo && int_eq first.1 c.first.hi) && (int_eq second.0 c.second.lo && int_eq second.1 c.second.hi)
+are_input_ranges c _ = false
+
+-- the file holds the inputs of the circuit: made for its parameters, its dimension, its width and its ranges
+abbrev pub is_input_of : Circuit → CiphertextFile → Bool
+is_input_of c file = bytes_eq file.digest (params_digest c) && (file.dim == dimension c.params && (file.width == c.width && are_input_ranges c file.ranges))
+
+-- the words of the sum: each input once, word by word modulo 2^64
+abbrev pub sum_words : CiphertextFile → List ℕ
+sum_words file = combined (replicate (file.dim + 1) 0) (1 ∷ 1 ∷ []) file.ciphertexts
+
+-- the file of the one output
+abbrev pub output_file : Circuit → CiphertextFile → CiphertextFile
+output_file c file = record { digest = file.digest; dim = file.dim; width = file.width; ranges = ((range_of_sum c).lo, (range_of_sum c).hi) ∷ []; ciphertexts = sum_words file ∷ [] }
+
+-- the circuit in a text, or the refusal
+abbrev pub circuit_in : Bytes → Result Circuit Status
+circuit_in text = found (status.Circuit (record { line = 1; kind = circuit_kind.Later })) (circuit_of text)
+
+-- what a refusal of the reader of ciphertext files is answered with
+abbrev pub cipher_refusal : FileRefusal → Status
+cipher_refusal (refusal.Fault fault) = status.File file_kind.Cipher fault
+cipher_refusal refusal.Memory = status.Memory
+
+-- the refusal of a ciphertext file
+abbrev pub bad_cipher : Status
+bad_cipher = status.File file_kind.Cipher file_fault.Later
+
+-- the inputs of the circuit in the bytes of a file, or the refusal
+unfoldable pub inputs_in : Circuit → Bytes → Result CiphertextFile Status
+inputs_in c bytes = do
+  file ← found bad_cipher (ciphertext_file_of bytes)
+  _ ← unless (is_input_of c file) bad_cipher
+  Ok file
+
+-- the circuit in a file, or the first refusal
+unfoldable pub circuit_from : Bytes → Files → Result Circuit Status
+circuit_from name files = do
+  text ← reading files name circuit_limit
+  circuit_in text
+
+-- the bytes of the output, or the first refusal
+unfoldable pub run_output : RunWords → Files → Result Bytes Status
+run_output words files = do
+  circuit ← circuit_from words.circuit files
+  _ ← unless (is_no_eval words.eval) status.Usage
+  bytes ← reading files words.cipher file_limit
+  inputs ← inputs_in circuit bytes
+  Ok (ciphertext_bytes (output_file circuit inputs))
+
+-- reads CIRCUIT and CIPHER, and writes OUTPUT
+abbrev pub run_outcome : RunWords → Files → Outcome
+run_outcome words files = outcome_from (run_output words files >>= λ output. Ok (finished (record { name = words.output; bytes = output } ∷ []) []))

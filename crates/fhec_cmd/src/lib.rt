@@ -1,0 +1,51 @@
+//! The commands of fhec over a store of files and a sink of bytes.
+#![tactic(auto)]
+
+ghost use Rattle.std.specs.Prelude.{◌≡◌, map};
+ghost use Rattle.std.specs.String.{string_bytes};
+ghost use Rattle.fhec_cmd.specs.CommandLine.{request_of, faulty};
+ghost use Rattle.fhec_cmd.specs.Commands.{outcome_of};
+ghost use Rattle.fhec_cmd.specs.Outside.{MayLeave, outside};
+
+mod cipher_file;
+mod circuit;
+mod circuit_text;
+mod commands;
+mod ranges;
+mod reading;
+mod status;
+mod status_line;
+mod words;
+
+pub use cipher_file::{FileFault, ciphertext_file_laws};
+pub use circuit_text::circuit_text_laws;
+use port_store::{Sink, Store};
+pub use status::{CircuitFault, CircuitKind, FileKind, LimitFault, LimitName, Status};
+use std::alloc::Global;
+use words::CommandLine;
+
+/// Does the command that the words are, those after the program's name.
+///
+/// What it answers and what it leaves of the files and of the bytes put is one function of the words and of
+/// the files as they are when it begins, unless a call of the store or the sink fails or memory runs out.
+pub fn fhec<S: Store, O: Sink>(
+    alloc: Global,
+    words: &[String],
+    store: &mut S,
+    out: &mut O,
+) -> Status
+    // Words that are no command are answered at once: nothing is called and no memory taken.
+    ensures usage { request_of (map string_bytes words.now) ≡ faulty → (result ≡ Status.Usage) × (store.new ≡ store.old) × (out.new ≡ out.old) }
+    // What is answered and what is left, whatever the store and the sink do.
+    ensures outcome { MayLeave (outcome_of (map string_bytes words.now)) result
+        (outside S.files S.read_faults S.write_faults O.taken O.put_faults store.old out.old)
+        (outside S.files S.read_faults S.write_faults O.taken O.put_faults store.new out.new) }
+{
+    match words::parse(words) {
+        CommandLine::Faulty => Status::Usage,
+        CommandLine::Run(names) => commands::run::run(alloc, store, &names),
+    }
+}
+
+#[cfg(test)]
+mod tests;
