@@ -1,0 +1,6 @@
+pub mod Fronts
+pub mod Gaps
+pub mod FirstBytes
+pub mod Longest
+pub mod Readings
+pub mod ReadingLemmas

@@ -1,0 +1,5 @@
+pub mod Spellings
+pub mod Lengths
+pub mod Tokens
+pub mod Reading
+pub mod Laws
