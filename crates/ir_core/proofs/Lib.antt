@@ -1,0 +1,5 @@
+pub mod Places
+pub mod Uses
+pub mod Kept
+pub mod Renaming
+pub mod Sorting
