@@ -1,174 +1,161 @@
 -- The whole text of a circuit: what is read is spelled so, and what is spelled is read again.
-use Rattle.std.proofs.Common.{◌≡◌, ℕ, ◌≤◌, Bool, true, false, cond, eqb, List, [], ◌++◌, length, Option, Some, None, arith, sym, ap, refl, ◌∙◌, subst, append_assoc}
+use Rattle.std.proofs.Common.{◌≡◌, ℕ, ◌+◌, ◌≤◌, ◌<◌, ◌^◌, cond, eqb, ◌&&◌, List, [], ◌∷◌, ◌++◌, length, All, Option, Some, None, arith, sym, ap, refl, ◌∙◌, subst, append_assoc}
 use Rattle.std.specs.Prelude.{codes}
-use Rattle.std.specs.Fmt.{decimal}
-use Rattle.std.proofs.lemmas.Bool.{eqb-true}
+use Rattle.std.specs.Fmt.{decimal, signed_decimal}
+use Rattle.std.specs.List.{flat_map}
+use Rattle.std.proofs.lemmas.Bool.{and_parts, eqb-true}
 use Rattle.std.proofs.lemmas.List.{append-nil, nil_from_length}
 use Rattle.fhec_cmd.specs.declared.circuit.Params.{Params}
 use Rattle.fhec_cmd.specs.declared.circuit.Range.{Range}
+use Rattle.fhec_cmd.specs.declared.circuit.WeightedSum.{WeightedSum}
+use Rattle.fhec_cmd.specs.declared.circuit.Out.{Out}
 use Rattle.fhec_cmd.specs.declared.circuit.Circuit.{Circuit}
-use Rattle.fhec_cmd.specs.Circuit.{line_feed, params_text, range_line, range_of_sum, circuit_text, IsParams, IsRange, IsCircuit}
+use Rattle.fhec_cmd.specs.Circuit.{line_feed, params_text, range_line, input_lines, term_text, sum_lines, out_line, circuit_text, IsOut, IsCircuit}
 use Rattle.fhec_cmd.specs.Reading.{◌>>=◌, words_at}
-use Rattle.fhec_cmd.specs.Numbers.{natural_field}
-use Rattle.fhec_cmd.specs.CircuitReading.{params_at, range_at, are_results_right, head_at, inputs_at, output_at, circuit_of}
+use Rattle.fhec_cmd.specs.CircuitReading.{head_at, inputs_at, input_line_at, sums_at, sum_line_at, outs_at, are_results_right, KeepsLimits, circuit_of}
 use Rattle.fhec_cmd.proofs.ReadingLemmas.{bind_some}
-use Rattle.fhec_cmd.proofs.NumberTexts.{at_given, words_taken, words_again, natural_field_taken, natural_field_again}
-use Rattle.fhec_cmd.proofs.CircuitLines.{params_taken, params_again, range_taken, range_again}
-use Rattle.fhec_cmd.proofs.CircuitResults.{IsRight, results_rules, results_pass}
-
-abbrev title : List ℕ
-title = codes "fhec circuit 1" ++ line_feed
-
-abbrev width_line : ℕ → List ℕ
-width_line width = codes "width " ++ (decimal width ++ line_feed)
-
-abbrev sum_line : List ℕ
-sum_line = codes "%2 = lin 0 1 %0 1 %1" ++ line_feed
+use Rattle.fhec_cmd.proofs.NumberTexts.{test_passed, words_taken, words_again}
+use Rattle.fhec_cmd.proofs.ParameterLines.{title, width_line, head_taken, head_again}
+use Rattle.fhec_cmd.proofs.NodeLines.{inputs_taken, inputs_again, sums_taken, sums_again, HasLine, outs_taken, outs_again, outs_stop, sums_stop, inputs_stop_at_out, inputs_stop_at_sum}
+use Rattle.fhec_cmd.proofs.Results.{results_rules, results_pass}
 
 abbrev end_line : List ℕ
 end_line = codes "end" ++ line_feed
 
--- ---- the lines before the nodes
+-- ---- what is read
 
-abbrev after_width_line : ℕ → List ℕ → Option (ℕ × Params × List ℕ)
-after_width_line width lines = params_at lines >>= λ params. Some (width, params.0, params.1)
+abbrev pub made : ℕ × Params × List ℕ → List Range × List ℕ → List WeightedSum × List ℕ → List Out × List ℕ → Circuit
+made head inputs sums outs = record { params = head.1; width = head.0; inputs = inputs.0; sums = sums.0; outs = outs.0 }
 
-abbrev after_width : ℕ × List ℕ → Option (ℕ × Params × List ℕ)
-after_width width = words_at line_feed width.1 >>= after_width_line width.0
+-- the lines before the end, each read from where the one before it ends
+pub record AreLines (bytes : List ℕ) (head : ℕ × Params × List ℕ) (inputs : List Range × List ℕ) (sums : List WeightedSum × List ℕ) (outs : List Out × List ℕ) : Type 0 where
+  pub head_read : head_at bytes ≡ Some head
+  pub inputs_read : inputs_at head.2 ≡ Some inputs
+  pub sums_read : sums_at (length inputs.0) inputs.1 ≡ Some sums
+  pub outs_read : outs_at sums.1 ≡ Some outs
 
-abbrev after_title : List ℕ → Option (ℕ × Params × List ℕ)
-after_title head = natural_field (codes "width ") 1 16 head >>= after_width
+pub limits : (bytes : List ℕ) (head : ℕ × Params × List ℕ) (inputs : List Range × List ℕ) (sums : List WeightedSum × List ℕ) (outs : List Out × List ℕ) → AreLines bytes head inputs sums outs → KeepsLimits (made head inputs sums outs)
+limits bytes head inputs sums outs are =
+    let h = head_taken bytes head are.head_read in
+    let i = inputs_taken head.2 inputs are.inputs_read in
+    let s = sums_taken (length inputs.0) inputs.1 sums are.sums_read in
+    let o = outs_taken sums.1 outs are.outs_read in
+    record {
+      params = h.params;
+      width_low = h.low;
+      width_high = h.high;
+      input_number = i.number;
+      inputs = i.rules;
+      sum_number = s.number;
+      sums = s.rules;
+      out_number = o.number;
+      outs = o.rules;
+    }
 
-record IsHead (bytes : List ℕ) (x : ℕ × Params × List ℕ) : Type 0 where
-  pub parts : bytes ≡ title ++ (width_line x.0 ++ (params_text x.1 ++ x.2))
-  pub low : 1 ≤ x.0
-  pub high : x.0 ≤ 16
-  pub params : IsParams x.1
+abbrev after_end : Circuit → List ℕ → Option Circuit
+after_end circuit rest = cond (eqb (length rest) 0 && are_results_right circuit) (Some circuit) None
 
-join_head : (bytes a b n end c r1 r2 r3 rest : List ℕ) → bytes ≡ a ++ r1 → r1 ≡ b ++ (n ++ r2) → r2 ≡ end ++ r3 → r3 ≡ c ++ rest → bytes ≡ a ++ ((b ++ (n ++ end)) ++ (c ++ rest))
-join_head bytes a b n end c r1 r2 r3 rest first second third fourth = simp append_assoc cc
+abbrev after_outs : ℕ × Params × List ℕ → List Range × List ℕ → List WeightedSum × List ℕ → List Out × List ℕ → Option Circuit
+after_outs head inputs sums outs = words_at end_line outs.1 >>= after_end (made head inputs sums outs)
 
-head_taken : (bytes : List ℕ) (x : ℕ × Params × List ℕ) → head_at bytes ≡ Some x → IsHead bytes x
-unfolding head_at
-head_taken bytes x e =
-    let head = bind_some (words_at title bytes) after_title x e in
-    let width = bind_some (natural_field (codes "width ") 1 16 head.0) after_width x head.2 in
-    let lines = bind_some (words_at line_feed width.0.1) (after_width_line width.0.0) x width.2 in
-    let made : Params × List ℕ → ℕ × Params × List ℕ = λ params. (width.0.0, params.0, params.1) in
-    let params = bind_some (params_at lines.0) (λ params. Some (made params)) x lines.2 in
-    let t1 = words_taken title bytes head.0 head.1 in
-    let t2 = natural_field_taken (codes "width ") 1 16 head.0 width.0 width.1 in
-    let t3 = words_taken line_feed width.0.1 lines.0 lines.1 in
-    let t4 = params_taken lines.0 params.0 params.1 in
-    let whole = join_head bytes title (codes "width ") (decimal width.0.0) line_feed (params_text params.0.0) head.0 width.0.1 lines.0 params.0.1 t1 t2.0 t3 t4.0 in
-    at_given (IsHead bytes) (made params.0) x params.2 (record { parts = whole; low = t2.1; high = t2.2; params = t4.1 })
+abbrev after_sums : ℕ × Params × List ℕ → List Range × List ℕ → List WeightedSum × List ℕ → Option Circuit
+after_sums head inputs sums = outs_at sums.1 >>= after_outs head inputs sums
 
-head_again : (width : ℕ) (params : Params) (rest : List ℕ) → 1 ≤ width → width ≤ 16 → IsParams params → head_at (title ++ (width_line width ++ (params_text params ++ rest))) ≡ Some (width, params, rest)
-unfolding head_at
-head_again width params rest low high is =
-    let after : List ℕ = params_text params ++ rest in
-    let regrouped : width_line width ++ after ≡ codes "width " ++ (decimal width ++ (line_feed ++ after)) = simp append_assoc in
-    ap (λ (w : List ℕ). head_at (title ++ w)) regrouped
-    ∙ rw (words_again title (codes "width " ++ (decimal width ++ (line_feed ++ after))), natural_field_again (codes "width ") 1 16 width (line_feed ++ after) low high (omega (arith, high)) refl, words_again line_feed after, params_again params rest is) refl
-
--- ---- the lines of the inputs
-
-abbrev after_first : Range × List ℕ → Option (Range × Range × List ℕ)
-after_first first = range_at (codes "%1 = input ") first.1 >>= λ second. Some (first.0, second.0, second.1)
-
-record AreInputs (bytes : List ℕ) (x : Range × Range × List ℕ) : Type 0 where
-  pub parts : bytes ≡ range_line (codes "%0 = input ") x.0 ++ (range_line (codes "%1 = input ") x.1 ++ x.2)
-  pub first : IsRange x.0
-  pub second : IsRange x.1
-
-inputs_taken : (bytes : List ℕ) (x : Range × Range × List ℕ) → inputs_at bytes ≡ Some x → AreInputs bytes x
-unfolding inputs_at
-inputs_taken bytes x e =
-    let first = bind_some (range_at (codes "%0 = input ") bytes) after_first x e in
-    let made : Range × List ℕ → Range × Range × List ℕ = λ second. (first.0.0, second.0, second.1) in
-    let second = bind_some (range_at (codes "%1 = input ") first.0.1) (λ second. Some (made second)) x first.2 in
-    let t1 = range_taken (codes "%0 = input ") bytes first.0 first.1 in
-    let t2 = range_taken (codes "%1 = input ") first.0.1 second.0 second.1 in
-    let whole = t1.0 ∙ ap (λ (r : List ℕ). range_line (codes "%0 = input ") first.0.0 ++ r) t2.0 in
-    at_given (AreInputs bytes) (made second.0) x second.2 (record { parts = whole; first = t1.1; second = t2.1 })
-
-inputs_again : (first second : Range) (rest : List ℕ) → IsRange first → IsRange second → inputs_at (range_line (codes "%0 = input ") first ++ (range_line (codes "%1 = input ") second ++ rest)) ≡ Some (first, second, rest)
-unfolding inputs_at
-inputs_again first second rest a b = rw (range_again (codes "%0 = input ") first (range_line (codes "%1 = input ") second ++ rest) a, range_again (codes "%1 = input ") second rest b) refl
-
--- ---- the lines of the sum and of the output, and the end
-
-abbrev after_out : Range × List ℕ → Option (Range × List ℕ)
-after_out out = words_at end_line out.1 >>= λ rest. Some (out.0, rest)
-
-abbrev after_sum : List ℕ → Option (Range × List ℕ)
-after_sum sum = range_at (codes "out %2 ") sum >>= after_out
-
-record IsOutput (bytes : List ℕ) (x : Range × List ℕ) : Type 0 where
-  pub parts : bytes ≡ sum_line ++ (range_line (codes "out %2 ") x.0 ++ (end_line ++ x.1))
-  pub range : IsRange x.0
-
-output_taken : (bytes : List ℕ) (x : Range × List ℕ) → output_at bytes ≡ Some x → IsOutput bytes x
-unfolding output_at
-output_taken bytes x e =
-    let sum = bind_some (words_at sum_line bytes) after_sum x e in
-    let out = bind_some (range_at (codes "out %2 ") sum.0) after_out x sum.2 in
-    let made : List ℕ → Range × List ℕ = λ rest. (out.0.0, rest) in
-    let rest = bind_some (words_at end_line out.0.1) (λ rest. Some (made rest)) x out.2 in
-    let t1 = words_taken sum_line bytes sum.0 sum.1 in
-    let t2 = range_taken (codes "out %2 ") sum.0 out.0 out.1 in
-    let t3 = words_taken end_line out.0.1 rest.0 rest.1 in
-    let whole = t1 ∙ ap (λ (r : List ℕ). sum_line ++ r) t2.0 ∙ ap (λ (r : List ℕ). sum_line ++ (range_line (codes "out %2 ") out.0.0 ++ r)) t3 in
-    at_given (IsOutput bytes) (made rest.0) x rest.2 (record { parts = whole; range = t2.1 })
-
-output_again : (out : Range) (rest : List ℕ) → IsRange out → output_at (sum_line ++ (range_line (codes "out %2 ") out ++ (end_line ++ rest))) ≡ Some (out, rest)
-unfolding output_at
-output_again out rest is = rw (words_again sum_line (range_line (codes "out %2 ") out ++ (end_line ++ rest)), range_again (codes "out %2 ") out (end_line ++ rest) is, words_again end_line rest) refl
-
--- ---- the whole text
-
--- two tests that were passed
-tests_passed : {A : Type 0} (first second : Bool) (x y : A) → cond first (cond second (Some x) None) None ≡ Some y → (first ≡ true) × (second ≡ true) × (x ≡ y)
-tests_passed true true x y e = (refl, refl, cc)
-tests_passed true false x y e = absurd cc
-tests_passed false second x y e = absurd cc
-
-abbrev after_output : Circuit → Range × List ℕ → Option Circuit
-after_output circuit output = cond (eqb (length output.1) 0) (cond (are_results_right circuit output.0) (Some circuit) None) None
-
-abbrev after_inputs : ℕ → Params → Range × Range × List ℕ → Option Circuit
-after_inputs width params inputs = output_at inputs.2 >>= after_output (record { params = params; width = width; first = inputs.0; second = inputs.1 })
+abbrev after_inputs : ℕ × Params × List ℕ → List Range × List ℕ → Option Circuit
+after_inputs head inputs = sums_at (length inputs.0) inputs.1 >>= after_sums head inputs
 
 abbrev after_head : ℕ × Params × List ℕ → Option Circuit
-after_head head = inputs_at head.2 >>= after_inputs head.0 head.1
+after_head head = inputs_at head.2 >>= after_inputs head
 
-join_all : (bytes a b c d e f g end r1 r2 r3 : List ℕ) → bytes ≡ a ++ (b ++ (c ++ r1)) → r1 ≡ d ++ (e ++ r2) → r2 ≡ f ++ (g ++ (end ++ r3)) → r3 ≡ [] → bytes ≡ a ++ (b ++ (c ++ (d ++ (e ++ (f ++ (g ++ end))))))
-join_all bytes a b c d e f g end r1 r2 r3 head inputs output nothing = let ended : end ++ [] ≡ end = append-nil end in cc
+join_all : (bytes a b c d e f end r1 r2 r3 r4 r5 : List ℕ) → bytes ≡ a ++ (b ++ (c ++ r1)) → r1 ≡ d ++ r2 → r2 ≡ e ++ r3 → r3 ≡ f ++ r4 → r4 ≡ end ++ r5 → r5 ≡ [] → bytes ≡ a ++ (b ++ (c ++ (d ++ (e ++ (f ++ end)))))
+join_all bytes a b c d e f end r1 r2 r3 r4 r5 head inputs sums outs last nothing = let ended : end ++ [] ≡ end = append-nil end in cc
 
 pub circuit_taken : (bytes : List ℕ) (circuit : Circuit) → circuit_of bytes ≡ Some circuit → IsCircuit circuit × (bytes ≡ circuit_text circuit)
 unfolding circuit_of
 circuit_taken bytes circuit e =
     let head = bind_some (head_at bytes) after_head circuit e in
-    let inputs = bind_some (inputs_at head.0.2) (after_inputs head.0.0 head.0.1) circuit head.2 in
-    let made : Circuit = record { params = head.0.1; width = head.0.0; first = inputs.0.0; second = inputs.0.1 } in
-    let output = bind_some (output_at inputs.0.2) (after_output made) circuit inputs.2 in
-    let t = tests_passed (eqb (length output.0.1) 0) (are_results_right made output.0.0) made circuit output.2 in
+    let inputs = bind_some (inputs_at head.0.2) (after_inputs head.0) circuit head.2 in
+    let sums = bind_some (sums_at (length inputs.0.0) inputs.0.1) (after_sums head.0 inputs.0) circuit inputs.2 in
+    let outs = bind_some (outs_at sums.0.1) (after_outs head.0 inputs.0 sums.0) circuit sums.2 in
+    let read : Circuit = made head.0 inputs.0 sums.0 outs.0 in
+    let rest = bind_some (words_at end_line outs.0.1) (after_end read) circuit outs.2 in
+    let t = test_passed (eqb (length rest.0) 0 && are_results_right read) read circuit rest.2 in
+    let tests = and_parts (eqb (length rest.0) 0) (are_results_right read) t.0 in
+    let nothing : rest.0 ≡ [] = nil_from_length rest.0 (eqb-true (length rest.0) 0 tests.0) in
+    let kept = limits bytes head.0 inputs.0 sums.0 outs.0 (record { head_read = head.1; inputs_read = inputs.1; sums_read = sums.1; outs_read = outs.1 }) in
     let h = head_taken bytes head.0 head.1 in
     let i = inputs_taken head.0.2 inputs.0 inputs.1 in
-    let o = output_taken inputs.0.2 output.0 output.1 in
-    let right : IsRight made output.0.0 = results_rules made output.0.0 h.low h.high t.1 in
-    let nothing : output.0.1 ≡ [] = nil_from_length output.0.1 (eqb-true (length output.0.1) 0 t.0) in
-    let read = join_all bytes title (width_line made.width) (params_text made.params) (range_line (codes "%0 = input ") made.first) (range_line (codes "%1 = input ") made.second) sum_line (range_line (codes "out %2 ") output.0.0) end_line head.0.2 inputs.0.2 output.0.1 h.parts i.parts o.parts nothing in
-    let whole : bytes ≡ circuit_text made = read ∙ ap (λ (r : Range). title ++ (width_line made.width ++ (params_text made.params ++ (range_line (codes "%0 = input ") made.first ++ (range_line (codes "%1 = input ") made.second ++ (sum_line ++ (range_line (codes "out %2 ") r ++ end_line))))))) right.same in
-    let rules : IsCircuit made = record { params = h.params; first = i.first; second = i.second; sum = subst IsRange right.same o.range; width = right.width; bound = right.bound } in
-    subst (λ (c : Circuit). IsCircuit c × (bytes ≡ circuit_text c)) t.2 (rules, whole)
+    let s = sums_taken (length inputs.0.0) inputs.0.1 sums.0 sums.1 in
+    let o = outs_taken sums.0.1 outs.0 outs.1 in
+    let whole : bytes ≡ circuit_text read = join_all bytes title (width_line read.width) (params_text read.params) (input_lines 0 read.inputs) (sum_lines (length read.inputs) read.sums) (flat_map out_line read.outs) end_line head.0.2 inputs.0.1 sums.0.1 outs.0.1 rest.0 h.parts i.parts s.parts o.parts (words_taken end_line outs.0.1 rest.0 rest.1) nothing in
+    subst (λ (c : Circuit). IsCircuit c × (bytes ≡ circuit_text c)) {x = read} t.1 (results_rules read kept tests.1, whole)
+
+-- ---- what is spelled
+
+abbrev after_out_word : Out → List ℕ
+after_out_word o = decimal o.node ++ range_line (codes " ") o.range
+
+-- an output's line begins with its word
+out_begins : (o : Out) (rest : List ℕ) → out_line o ++ rest ≡ codes "out %" ++ (after_out_word o ++ rest)
+out_begins o rest = refl
+
+sums_end : (inputs : ℕ) (os : List Out) (rest : List ℕ) → 1 ≤ length os → (node : ℕ) → sum_line_at inputs node (flat_map out_line os ++ rest) ≡ None
+sums_end inputs [] rest some node = absurd (omega arith)
+sums_end inputs (o ∷ os) rest some node = ap (λ (w : List ℕ). sum_line_at inputs node w) (append_assoc (out_line o) (flat_map out_line os) rest) ∙ sums_stop inputs (after_out_word o ++ (flat_map out_line os ++ rest)) node
+
+inputs_end_at_out : (os : List Out) (rest : List ℕ) → 1 ≤ length os → (node : ℕ) → input_line_at node (flat_map out_line os ++ rest) ≡ None
+inputs_end_at_out [] rest some node = absurd (omega arith)
+inputs_end_at_out (o ∷ os) rest some node = ap (λ (w : List ℕ). input_line_at node w) (append_assoc (out_line o) (flat_map out_line os) rest) ∙ inputs_stop_at_out (after_out_word o ++ (flat_map out_line os ++ rest)) node
+
+regroup_begin : (a n b z rest more : List ℕ) → ((a ++ (n ++ (b ++ z))) ++ rest) ++ more ≡ a ++ (n ++ (b ++ (z ++ (rest ++ more))))
+regroup_begin a n b z rest more = simp append_assoc
+
+inputs_end : (number : ℕ) (ss : List WeightedSum) (os : List Out) (rest : List ℕ) → number < 2 ^ 63 → 1 ≤ length os → (node : ℕ) → input_line_at node (sum_lines number ss ++ (flat_map out_line os ++ rest)) ≡ None
+inputs_end number [] os rest small some node = inputs_end_at_out os rest some node
+inputs_end number (s ∷ ss) os rest small some node =
+    let after : List ℕ = signed_decimal s.constant ++ (flat_map term_text s.terms ++ line_feed) in
+    let more : List ℕ = flat_map out_line os ++ rest in
+    ap (λ (w : List ℕ). input_line_at node w) (regroup_begin (codes "%") (decimal number) (codes " = lin ") after (sum_lines (number + 1) ss) more)
+    ∙ inputs_stop_at_sum number (after ++ (sum_lines (number + 1) ss ++ more)) small node
+
+line_of : (c : Circuit) → IsCircuit c → (o : Out) → IsOut c o → HasLine o
+line_of c is o out = record { range = out.range; node = omega (arith, out.node, is.input_number, is.sum_number) }
+
+lines_of : (c : Circuit) → IsCircuit c → All HasLine c.outs
+lines_of c is = λ k d lt. line_of c is _ (is.outs k d lt)
 
 pub circuit_again : (circuit : Circuit) → IsCircuit circuit → circuit_of (circuit_text circuit) ≡ Some circuit
 unfolding circuit_of
 circuit_again c is =
-    let out : List ℕ = range_line (codes "out %2 ") (range_of_sum c) in
-    let output : List ℕ = sum_line ++ (out ++ end_line) in
-    let inputs : List ℕ = range_line (codes "%0 = input ") c.first ++ (range_line (codes "%1 = input ") c.second ++ output) in
-    let ended : output_at output ≡ Some (range_of_sum c, []) = ap (λ (end : List ℕ). output_at (sum_line ++ (out ++ end))) (sym (append-nil end_line)) ∙ output_again (range_of_sum c) [] is.sum in
-    let right : are_results_right c (range_of_sum c) ≡ true = results_pass c (record { same = refl; width = is.width; bound = is.bound }) in
-    rw (head_again c.width c.params inputs is.width.low is.width.high is.params, inputs_again c.first c.second output is.first is.second, ended, right) refl
+    let outs : List ℕ = flat_map out_line c.outs ++ end_line in
+    let sums : List ℕ = sum_lines (length c.inputs) c.sums ++ outs in
+    let inputs : List ℕ = input_lines 0 c.inputs ++ sums in
+    let few : length c.inputs < 2 ^ 63 = omega (arith, is.input_number) in
+    let ended : words_at end_line end_line ≡ Some [] = ap (λ (end : List ℕ). words_at end_line end) (sym (append-nil end_line)) ∙ words_again end_line [] in
+    rw (
+      head_again c.width c.params inputs is.width_low is.width_high is.params,
+      inputs_again c.inputs sums is.input_number is.inputs (inputs_end (length c.inputs) c.sums c.outs end_line few is.out_low),
+      sums_again (length c.inputs) is.input_number c.sums outs is.sum_number is.sums (sums_end (length c.inputs) c.outs end_line is.out_low),
+      outs_again c.outs end_line is.out_high (lines_of c is) outs_stop,
+      ended,
+      results_pass c is,
+    ) refl
+
+-- ---- what the code read
+
+-- the values that the code read, each with the equation that its call ensures
+pub record AreRead (bytes : List ℕ) (c : Circuit) : Type 0 where
+  pub after_head : List ℕ
+  pub after_inputs : List ℕ
+  pub after_sums : List ℕ
+  pub after_outs : List ℕ
+  pub head : head_at bytes ≡ Some (c.width, c.params, after_head)
+  pub inputs : inputs_at after_head ≡ Some (c.inputs, after_inputs)
+  pub sums : sums_at (length c.inputs) after_inputs ≡ Some (c.sums, after_sums)
+  pub outs : outs_at after_sums ≡ Some (c.outs, after_outs)
+
+pub limits_read : (bytes : List ℕ) (c : Circuit) → AreRead bytes c → KeepsLimits c
+limits_read bytes c are = limits bytes (c.width, c.params, are.after_head) (c.inputs, are.after_inputs) (c.sums, are.after_sums) (c.outs, are.after_outs) (record { head_read = are.head; inputs_read = are.inputs; sums_read = are.sums; outs_read = are.outs })
+
+pub few_inputs : (bytes : List ℕ) (inputs : List Range) (rest : List ℕ) → inputs_at bytes ≡ Some (inputs, rest) → length inputs ≤ 64
+few_inputs bytes inputs rest e = (inputs_taken bytes (inputs, rest) e).number

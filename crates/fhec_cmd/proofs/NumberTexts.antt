@@ -22,7 +22,7 @@ use Rattle.fhec_cmd.proofs.NumberLemmas.{front_digits}
 abbrev given : {A : Type 0} → A → Option A
 given x = Some x
 
-some_is : {A : Type 0} (x y : A) → given x ≡ given y → x ≡ y
+pub some_is : {A : Type 0} (x y : A) → given x ≡ given y → x ≡ y
 some_is x y e = cc
 
 -- what holds of the value that a step made holds of the value that it gave

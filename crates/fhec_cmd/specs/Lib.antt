@@ -4,8 +4,10 @@ pub mod Ranges
 pub mod Reading
 pub mod Numbers
 pub mod Circuit
+pub mod NodeLines
 pub mod CircuitReading
 pub mod CircuitLaws
+pub mod Refusal
 pub mod CiphertextFile
 pub mod CiphertextReading
 pub mod CommandLine

@@ -1,4 +1,6 @@
-//! A circuit: its parameters, its width and its nodes.
+//! A circuit: its parameters, its width, its nodes and its outputs.
+
+use lists::List;
 
 /// The parameters of the ring: `k` mask polynomials of `2^log_n` coefficients, at most `ones` ones in the big
 /// key, and errors of at most `error` in size.
@@ -42,12 +44,37 @@ pub struct Range {
     pub hi: i64,
 }
 
-/// The circuit that adds its two inputs and puts their sum out.
+/// A weight on an input.
 #[derive(Clone, Copy, Debug, PartialEq, Eq)]
+pub struct Term {
+    pub weight: i64,
+    /// The number of the input's node.
+    pub node: u32,
+}
+
+/// A node whose value is a constant and a sum of weights times inputs.
+#[derive(Debug, Drop)]
+pub struct WeightedSum {
+    pub constant: i64,
+    /// The terms, rising in their nodes.
+    pub terms: List<Term>,
+}
+
+/// An output: the node whose value it is, and the node's range.
+#[derive(Clone, Copy, Debug, PartialEq, Eq)]
+pub struct Out {
+    pub node: u32,
+    pub range: Range,
+}
+
+/// A circuit without a bootstrap. Its nodes are numbered from 0, the inputs first.
+#[derive(Debug, Drop)]
 pub struct Circuit {
     pub params: Params,
     /// The bits of a message.
     pub width: u32,
-    pub first: Range,
-    pub second: Range,
+    /// The ranges of the inputs.
+    pub inputs: List<Range>,
+    pub sums: List<WeightedSum>,
+    pub outs: List<Out>,
 }

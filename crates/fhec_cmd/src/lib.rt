@@ -11,6 +11,7 @@ mod cipher_file;
 mod circuit;
 mod circuit_text;
 mod commands;
+mod evaluation;
 mod ranges;
 mod reading;
 mod status;

@@ -4,6 +4,7 @@ ghost use Rattle.std.specs.Prelude.{None};
 
 use crate::{CircuitFault, CircuitKind, FileFault, FileKind, LimitFault, LimitName, Status, fhec};
 use port_store::{MemSink, MemStore, PortFault, Store};
+use sha2::{Digest, Sha256};
 use std::alloc::{AllocError, Global};
 use std::test::Fail;
 
@@ -202,6 +203,101 @@ fn refuses_circuits(rt: HostRuntime) -> Result<(), Fail> {
     }
     let mut store = store_of(alloc, b"", &INPUTS)?;
     assert_eq!(rt; run_over(alloc, &mut store)?, CIRCUIT_REFUSED);
+    Ok(())
+}
+
+/// The head of a circuit of this width, with the parameters of `CIRCUIT`, and these lines.
+fn circuit_of(alloc: Global, width: u32, lines: &str) -> Result<String, AllocError> {
+    let head = "glwe 1 1 1 3\nlwe 1 0 0\nboot 1 1\nswitch 1 1";
+    format!(in alloc; "fhec circuit 1\nwidth {width}\n{head}\n{lines}end\n")
+}
+
+/// A ciphertext file of dimension 2 for the parameters of `CIRCUIT`, made from its fields.
+fn file_of(
+    alloc: Global,
+    width: u64,
+    ranges: &[(i64, i64)],
+    rows: &[[u64; 3]],
+) -> Result<Vec<u8>, AllocError> {
+    let mut file = Vec::new(alloc);
+    file.extend_from_slice(&INPUTS[..40])?;
+    for field in [2, width, ranges.len() as u64] {
+        file.extend_from_slice(&field.to_le_bytes())?;
+    }
+    for range in ranges {
+        file.extend_from_slice(&range.0.to_le_bytes())?;
+        file.extend_from_slice(&range.1.to_le_bytes())?;
+    }
+    for row in rows {
+        for word in row {
+            file.extend_from_slice(&word.to_le_bytes())?;
+        }
+    }
+    let seal = Sha256::digest(file.as_slice());
+    file.extend_from_slice(&seal)?;
+    Ok(file)
+}
+
+#[test]
+fn evaluates_circuits(rt: HostRuntime) -> Result<(), Fail> {
+    let alloc = rt.alloc();
+    let rows = [[5, 7, 100], [1, 2, 3], [u64::MAX, u64::MAX - 1, 1 << 63]];
+    let one = [(0, 15)];
+    let three = [(0, 1), (0, 2), (-1, 0)];
+    for (width, ranges, lines, out_ranges, outs) in [
+        // An output of an input copies its words.
+        (
+            4,
+            one.as_slice(),
+            "%0 = input 0 15\nout %0 0 15\n",
+            [(0, 15)].as_slice(),
+            [[5, 7, 100]].as_slice(),
+        ),
+        // A sum without terms is its constant: 5 times 2^62.
+        (
+            1,
+            one.as_slice(),
+            "%0 = input 0 15\n%1 = lin 5\nout %1 5 5\n",
+            [(5, 5)].as_slice(),
+            [[0, 0, 1 << 62]].as_slice(),
+        ),
+        // Negative weights and a negative constant, two outputs of one node, and one of an input.
+        (
+            3,
+            three.as_slice(),
+            "%0 = input 0 1\n%1 = input 0 2\n%2 = input -1 0\n%3 = lin -3 -2 %0 1 %1\nout %3 -5 -1\nout %1 0 2\nout %3 -5 -1\n",
+            [(-5, -1), (0, 2), (-5, -1)].as_slice(),
+            [
+                [
+                    18_446_744_073_709_551_607,
+                    18_446_744_073_709_551_604,
+                    14_987_979_559_889_010_491,
+                ],
+                [1, 2, 3],
+                [
+                    18_446_744_073_709_551_607,
+                    18_446_744_073_709_551_604,
+                    14_987_979_559_889_010_491,
+                ],
+            ]
+            .as_slice(),
+        ),
+        // Three terms and a constant.
+        (
+            4,
+            three.as_slice(),
+            "%0 = input 0 1\n%1 = input 0 2\n%2 = input -1 0\n%3 = lin 2 7 %0 1 %1 -1 %2\nout %3 2 12\n",
+            [(2, 12)].as_slice(),
+            [[37, 53, 10_376_293_541_461_623_487]].as_slice(),
+        ),
+    ] {
+        let circuit = circuit_of(alloc, width, lines)?;
+        let inputs = file_of(alloc, u64::from(width), ranges, &rows[..ranges.len()])?;
+        let mut store = store_of(alloc, circuit.as_bytes(), &inputs)?;
+        assert_eq!(rt; run_over(alloc, &mut store)?, Status::Ok, "{lines}");
+        let wanted = file_of(alloc, u64::from(width), out_ranges, outs)?;
+        assert_eq!(rt; store.bytes("output"), Some(wanted.as_slice()), "{lines}");
+    }
     Ok(())
 }
 

@@ -1,13 +1,14 @@
 //! The words of TFHE: integers modulo 2^64, the torus of Chillotti et al. 2020, "TFHE: Fast Fully
 //! Homomorphic Encryption over the Torus", J. Cryptology 33, scaled by 2^64 and kept as a `u64`.
 //!
-//! `words` has the ring's operations with their laws, `lin` the trait of the types that are rows of
-//! words, and `combination` weighted sums of such values.
+//! `words` has the ring's operations with their laws, `rounding` words by their highest bits, `lin` the
+//! trait of the types that are rows of words, and `combination` weighted sums of such values.
 #![tactic(auto)]
 
 mod combination;
 mod laws;
 mod lin;
+mod rounding;
 #[cfg(test)]
 mod tests;
 mod words;
@@ -15,4 +16,5 @@ mod words;
 pub use combination::combine;
 pub use laws::{centred_laws, residue_laws, ring_laws, size_laws};
 pub use lin::Lin;
+pub use rounding::{mod_switch, round_to, rounding_laws, switching_laws};
 pub use words::{centred, wadd, wmul, wneg, wsub};

@@ -1,5 +1,6 @@
 use crate::{
-    Lin, centred, centred_laws, combine, residue_laws, ring_laws, size_laws, wadd, wmul, wneg, wsub,
+    Lin, centred, centred_laws, combine, mod_switch, residue_laws, ring_laws, round_to,
+    rounding_laws, size_laws, switching_laws, wadd, wmul, wneg, wsub,
 };
 
 /// The word of -1.
@@ -85,4 +86,61 @@ fn laws_are_free() {
     residue_laws();
     size_laws();
     centred_laws();
+    rounding_laws();
+    switching_laws();
+}
+
+#[test]
+fn rounding_takes_ties_up(rt: HostRuntime) {
+    // w, base, level, the nearest multiple of 2^(64 - base*level)
+    for (w, base, level, nearest) in [
+        (0, 4, 1, 0),
+        (576460752303423487, 4, 1, 0),
+        (576460752303423488, 4, 1, 1152921504606846976),
+        (LEAST, 4, 1, LEAST),
+        (1729382256910270464, 4, 2, 1729382256910270464),
+        (MINUS_ONE, 4, 2, 0),
+        // a step of 2^63
+        (4611686018427387903, 1, 1, 0),
+        (4611686018427387904, 1, 1, LEAST),
+        (13835058055282163711, 1, 1, LEAST),
+        (13835058055282163712, 1, 1, 0),
+        // a step of 2
+        (1, 63, 1, 2),
+        (1, 1, 63, 2),
+        (18446744073709551613, 21, 3, 18446744073709551614),
+        (MINUS_ONE, 1, 63, 0),
+        // a step of 4
+        (1, 31, 2, 0),
+        (2, 31, 2, 4),
+        (18446744073709551613, 31, 2, 18446744073709551612),
+        (18446744073709551614, 31, 2, 0),
+    ] {
+        assert!(rt; 1 <= base && base <= 63 && 1 <= level && level <= 63);
+        assert!(rt; base * level <= 63);
+        assert_eq!(rt; round_to(w, base, level), nearest, "{w} {base} {level}");
+    }
+}
+
+#[test]
+fn switching_takes_ties_up(rt: HostRuntime) {
+    // w, log_n, the nearest of 2^(log_n + 1) places
+    for (w, log_n, place) in [
+        (0, 1, 0),
+        (2305843009213693951, 1, 0),
+        (2305843009213693952, 1, 1),
+        (16140901064495857663, 1, 3),
+        (16140901064495857664, 1, 0),
+        (MINUS_ONE, 1, 0),
+        (8034421735228964864, 8, 223),
+        (8070450532247928832, 8, 224),
+        (18392700878181105664, 8, 511),
+        (562949953421311, 13, 0),
+        (562949953421312, 13, 1),
+        (18446181123756130303, 13, 16383),
+        (18446181123756130304, 13, 0),
+    ] {
+        assert!(rt; 1 <= log_n && log_n <= 13);
+        assert_eq!(rt; mod_switch(w, log_n), place, "{w} {log_n}");
+    }
 }

@@ -1,13 +1,11 @@
-//! `run`: the sum of two encrypted inputs.
+//! `run`: a linear circuit on encrypted inputs.
 
-ghost use Rattle.std.specs.Prelude.{◌≡◌, ◌≤◌, ◌<◌, ◌+◌, ◌⊎◌, ◌∷◌, ◌++◌, [], List, ℕ, All, IsTrue, codes, length, map, replicate, Option, Some, None, IfOk, OnOk, IsErrOf};
-ghost use Rattle.std.specs.Fmt.{decimal};
-ghost use Rattle.std.specs.String.{string_bytes};
+ghost use Rattle.std.specs.Prelude.{◌≡◌, ◌≤◌, ◌<◌, ◌⊎◌, List, ℕ, IsTrue, length, map, Option, Some, None, IfOk, IsErrOf};
 ghost use Rattle.sha2.specs.Sha256.{sha256};
 ghost use Rattle.word_ring.specs.Rows.{combined};
 ghost use Rattle.port_store.specs.Files.{Files, Bytes};
 ghost use Rattle.port_store.specs.Faults.{Rises};
-ghost use Rattle.fhec_cmd.specs.Circuit.{params_text, dimension, range_of_sum as sum_range, IsGlwe, IsRange, glwe_line as glwe_text, lwe_line as lwe_text, gadget_line as gadget_text};
+ghost use Rattle.fhec_cmd.specs.Circuit.{params_text, IsGlwe, IsCircuit};
 ghost use Rattle.fhec_cmd.specs.CiphertextFile.{file_of, HasFileLimits, ciphertext_bytes};
 ghost use Rattle.fhec_cmd.specs.CommandView.{run_view};
 ghost use Rattle.fhec_cmd.specs.Run.{is_input_of as input_test, circuit_in as circuit_of_text, circuit_from as circuit_of_file, inputs_in as inputs_of, output_file, run_output, run_outcome, are_input_ranges as ranges_test, params_digest as digest_of_params};
@@ -15,9 +13,10 @@ ghost use Rattle.fhec_cmd.specs.Outside.{MayLeave};
 ghost use Rattle.fhec_cmd.specs.Steps.{Gives};
 
 use crate::cipher_file::{CipherHead, FileFault, FileRefusal, print_cipher, read_cipher};
-use crate::circuit::{Circuit, Gadget, GlweChoice, LweChoice, Params};
-use crate::circuit_text::{range_of_sum, read_circuit};
+use crate::circuit::{Circuit, Out, Params, Range};
+use crate::circuit_text::{CircuitRefusal, put_params, read_circuit};
 use crate::commands::files::{read_file, write_file};
+use crate::evaluation::outputs_of;
 use crate::status::{CircuitFault, CircuitKind, FileKind, Status};
 use crate::words::{RunNames, is_no_eval};
 use lists::List;
@@ -25,7 +24,6 @@ use lwe_core::{Big, Lwe};
 use port_store::Store;
 use sha2::{Digest, Sha256};
 use std::alloc::{AllocError, Global};
-use word_ring::combine;
 
 /// The greatest circuit file, in bytes.
 const CIRCUIT_LIMIT: u64 = 1 << 27;
@@ -34,73 +32,44 @@ const CIRCUIT_LIMIT: u64 = 1 << 27;
 const FILE_LIMIT: u64 = 1 << 29;
 
 /// The circuit in a text.
-fn circuit_in(text: &[u8]) -> Result<Circuit, Status>
+fn circuit_in(alloc: Global, text: &[u8]) -> Result<Circuit, Status>
     ensures circuit { Gives ⊥ (λ circuit. circuit) result (circuit_of_text text.now) }
-    ensures glwe { IfOk result (λ c. IsGlwe c.params.glwe) }
-    ensures first { IfOk result (λ c. IsRange c.first) }
-    ensures second { IfOk result (λ c. IsRange c.second) }
-    ensures sum { IfOk result (λ c. IsRange (sum_range c)) }
+    ensures not_read { IsErrOf result Status.Read → ⊥ }
+    ensures rules { IfOk result IsCircuit }
 {
-    read_circuit(text).ok_or(Status::Circuit(CircuitFault {
-        line: 1,
-        kind: CircuitKind::Later,
-    }))
-}
-
-/// The parameter line of the ring.
-fn glwe_line(alloc: Global, glwe: &GlweChoice) -> Result<String, AllocError>
-    ensures { IfOk result (λ line. string_bytes line ≡ glwe_text glwe.now) }
-{
-    let GlweChoice {
-        k,
-        log_n,
-        ones,
-        error,
-    } = *glwe;
-    format!(in alloc; "glwe {k} {log_n} {ones} {error}\n")
-}
-
-/// The parameter line of small ciphertexts.
-fn lwe_line(alloc: Global, lwe: &LweChoice) -> Result<String, AllocError>
-    ensures { IfOk result (λ line. string_bytes line ≡ lwe_text lwe.now) }
-{
-    let LweChoice { n, ones, error } = *lwe;
-    format!(in alloc; "lwe {n} {ones} {error}\n")
-}
-
-/// A parameter line of digits, after its name and a blank.
-fn gadget_line(alloc: Global, name: &str, gadget: &Gadget) -> Result<String, AllocError>
-    ensures { IfOk result (λ line. string_bytes line ≡ gadget_text name.now gadget.now) }
-{
-    let Gadget { base, level } = *gadget;
-    format!(in alloc; "{name}{base} {level}\n")
+    match read_circuit(alloc, text) {
+        Ok(circuit) => Ok(circuit),
+        Err(CircuitRefusal::Memory) => Err(Status::Memory),
+        Err(CircuitRefusal::Fault) => Err(Status::Circuit(CircuitFault {
+            line: 1,
+            kind: CircuitKind::Later,
+        })),
+    }
 }
 
 /// The SHA-256 of the parameter lines, which ties a file to its parameters.
 fn params_digest(alloc: Global, params: &Params) -> Result<[u8; 32], AllocError>
     ensures { IfOk result (λ digest. digest ≡ sha256 (params_text params.now)) }
 {
+    let mut text = String::from_str(alloc, "")?;
+    put_params(&mut text, *params)?;
     let mut hasher = Sha256::new();
-    hasher.update(glwe_line(alloc, &params.glwe)?.as_bytes());
-    hasher.update(lwe_line(alloc, &params.lwe)?.as_bytes());
-    hasher.update(gadget_line(alloc, "boot ", &params.boot)?.as_bytes());
-    hasher.update(gadget_line(alloc, "switch ", &params.switch)?.as_bytes());
+    hasher.update(text.as_bytes());
     Ok(hasher.finalize())
 }
 
 /// Whether the ranges are those of the inputs, in order.
-fn are_input_ranges(circuit: &Circuit, ranges: &[(i64, i64)]) -> bool
-    ensures value { result ≡ ranges_test circuit.now ranges.now }
-    ensures two { IsTrue result → length ranges.now ≡ 2 }
+fn are_input_ranges(inputs: &[Range], ranges: &[(i64, i64)]) -> bool
+    ensures value { result ≡ ranges_test inputs.now ranges.now }
+    ensures number { IsTrue result → length inputs.now ≡ length ranges.now }
 {
-    match ranges {
-        [first, second] => {
-            first.0 == circuit.first.lo
-                && first.1 == circuit.first.hi
-                && second.0 == circuit.second.lo
-                && second.1 == circuit.second.hi
+    match (inputs, ranges) {
+        ([], []) => true,
+        ([input, inputs @ ..], [range, ranges @ ..]) => {
+            range.0 == input.lo && range.1 == input.hi && are_input_ranges(inputs, ranges)
         }
-        _ => false,
+        ([], [_, ..]) => false,
+        ([_, _others @ ..], []) => false,
     }
 }
 
@@ -109,25 +78,13 @@ fn is_input_of(circuit: &Circuit, digest: &[u8; 32], head: &CipherHead) -> bool
     requires digest { digest.now ≡ digest_of_params circuit.now }
     requires glwe { IsGlwe circuit.now.params.glwe }
     ensures value { (list : List (List ℕ)) → result ≡ input_test circuit.now (file_of head.now list) }
-    ensures two { IsTrue result → length head.now.ranges ≡ 2 }
+    ensures number { IsTrue result → length circuit.now.inputs ≡ length head.now.ranges }
 {
     let glwe = circuit.params.glwe;
     head.digest == *digest
         && head.dim == glwe.k * (1 << glwe.log_n)
         && head.width == circuit.width
-        && are_input_ranges(circuit, head.ranges.as_slice())
-}
-
-/// The sum of two ciphertexts, word by word.
-fn sum_of(alloc: Global, dim: usize, inputs: &[Lwe<Big>]) -> Result<Lwe<Big>, AllocError>
-    requires two { length inputs.now ≡ 2 }
-    requires dim { dim ≤ 24576 }
-    requires words { All (λ words. length words ≡ dim + 1) inputs.now }
-    ensures { IfOk result (λ sum. sum ≡ combined (replicate (dim + 1) 0) (1 ∷ 1 ∷ []) inputs.now) }
-{
-    let mut sum = Lwe::new(alloc, dim)?;
-    combine(&mut sum, &[1, 1], &[0, 1], inputs);
-    Ok(sum)
+        && are_input_ranges(circuit.inputs.as_slice(), head.ranges.as_slice())
 }
 
 /// The inputs of the circuit in the bytes of a ciphertext file, which are let go once they are read.
@@ -137,11 +94,11 @@ fn inputs_in(
     circuit: &Circuit,
     bytes: Vec<u8>,
 ) -> Result<(CipherHead, Vec<Lwe<Big>>), Status>
-    requires { IsGlwe circuit.now.params.glwe }
+    requires { IsCircuit circuit.now }
     ensures inputs { Gives ⊥ (λ read. file_of read.0 read.1.items) result (inputs_of circuit.now bytes.items) }
     ensures not_read { IsErrOf result Status.Read → ⊥ }
     ensures limits { IfOk result (λ read. HasFileLimits (file_of read.0 read.1.items)) }
-    ensures two { IfOk result (λ read. length read.1.items ≡ 2) }
+    ensures number { IfOk result (λ read. length read.1.items ≡ length circuit.now.inputs) }
 {
     let (head, inputs) = read_cipher(alloc, &bytes)?;
     let digest = params_digest(alloc, &circuit.params)?;
@@ -152,31 +109,37 @@ fn inputs_in(
     }
 }
 
-/// The bytes of the output. The inputs are let go once they are added.
+/// The ranges of the outputs, in order.
+fn output_ranges(alloc: Global, outs: &[Out]) -> Result<Vec<(i64, i64)>, AllocError>
+    ensures { IfOk result (λ v. v.items ≡ map (λ o. (o.range.lo, o.range.hi)) outs.now) }
+{
+    outs.iter()
+        .map(|out| (out.range.lo, out.range.hi))
+        .collect(alloc)
+}
+
+/// The bytes of the output. The inputs are let go once the outputs are computed.
 fn output_of(
     alloc: Global,
     circuit: &Circuit,
     head: &CipherHead,
     inputs: Vec<Lwe<Big>>,
 ) -> Result<Vec<u8>, AllocError>
-    requires first { IsRange circuit.now.first }
-    requires second { IsRange circuit.now.second }
-    requires sum { IsRange (sum_range circuit.now) }
+    requires rules { IsCircuit circuit.now }
     requires limits { HasFileLimits (file_of head.now inputs.items) }
-    requires two { length inputs.items ≡ 2 }
+    requires number { length inputs.items ≡ length circuit.now.inputs }
     ensures { IfOk result (λ v. v.items ≡ ciphertext_bytes (output_file circuit.now (file_of head.now inputs.items))) }
 {
-    let sum = sum_of(alloc, head.dim as usize, &inputs)?;
+    let values = outputs_of(alloc, circuit, head, &inputs)?;
     drop(inputs);
-    let range = range_of_sum(circuit);
+    let ranges = output_ranges(alloc, circuit.outs.as_slice())?;
     let output = CipherHead {
         digest: head.digest,
         dim: head.dim,
         width: head.width,
-        ranges: List::from_vec(vec![in alloc; (range.lo, range.hi)]?),
+        ranges: List::from_vec(ranges),
     };
-    let list = vec![in alloc; sum]?;
-    print_cipher(alloc, &output, &list)
+    print_cipher(alloc, &output, &values)
 }
 
 /// The circuit in a file, which is let go once it is read.
@@ -189,13 +152,10 @@ fn circuit_from<S: Store>(alloc: Global, store: &mut S, name: &str) -> Result<Ci
     ensures never_fall { S.read_faults store.old ≤ S.read_faults store.new }
     ensures write_faults { S.write_faults store.new ≡ S.write_faults store.old }
 
-    ensures glwe { IfOk result (λ c. IsGlwe c.params.glwe) }
-    ensures first { IfOk result (λ c. IsRange c.first) }
-    ensures second { IfOk result (λ c. IsRange c.second) }
-    ensures sum { IfOk result (λ c. IsRange (sum_range c)) }
+    ensures rules { IfOk result IsCircuit }
 {
     let text = read_file(alloc, store, name, CIRCUIT_LIMIT)?;
-    circuit_in(&text)
+    circuit_in(alloc, &text)
 }
 
 /// The bytes of the output, computed from both files.

@@ -1,29 +1,25 @@
--- A line of a circuit that is read is spelled so, and what is spelled is read again.
-use Rattle.std.proofs.Common.{◌≡◌, ℕ, ◌+◌, ◌*◌, ◌/◌, ◌≤◌, ◌<◌, ◌^◌, ◌-◌, ℤ, pos, negsuc, ◌≤ℤ◌, int_le, T, Bool, true, false, cond, ◌&&◌, List, ◌++◌, Option, Some, None, arith, sym, ap, refl, ◌∙◌, subst, append_assoc, mul_comm, mul-le-mul, le-div_iff_mul-le}
+-- The lines before the nodes: what is read is spelled so, and what is spelled is read again.
+use Rattle.std.proofs.Common.{◌≡◌, ℕ, ◌*◌, ◌/◌, ◌≤◌, ◌<◌, ◌^◌, ◌-◌, List, ◌++◌, Option, Some, arith, ap, refl, ◌∙◌, append_assoc, mul_comm, mul-le-mul, le-div_iff_mul-le}
 use Rattle.std.specs.Prelude.{codes}
-use Rattle.std.specs.Fmt.{decimal, signed_decimal}
-use Rattle.std.specs.Int.Signed.{mag}
+use Rattle.std.specs.Fmt.{decimal}
 use Rattle.std.proofs.Math.Nat.{pow-le-pow_right}
-use Rattle.std.proofs.lemmas.Bool.{and_parts}
-use Rattle.std.proofs.lemmas.Int.{ints}
 use Rattle.fhec_cmd.specs.declared.circuit.GlweChoice.{GlweChoice}
 use Rattle.fhec_cmd.specs.declared.circuit.LweChoice.{LweChoice}
 use Rattle.fhec_cmd.specs.declared.circuit.Gadget.{Gadget}
 use Rattle.fhec_cmd.specs.declared.circuit.Params.{Params}
-use Rattle.fhec_cmd.specs.declared.circuit.Range.{Range}
-use Rattle.fhec_cmd.specs.Circuit.{line_feed, glwe_line, lwe_line, gadget_line, params_text, range_line, IsGlwe, IsLwe, IsGadget, IsParams, IsRange}
+use Rattle.fhec_cmd.specs.Circuit.{line_feed, glwe_line, lwe_line, gadget_line, params_text, IsGlwe, IsLwe, IsGadget, IsParams}
 use Rattle.fhec_cmd.specs.Reading.{◌>>=◌, words_at}
-use Rattle.fhec_cmd.specs.Numbers.{natural_field, integer_field}
-use Rattle.fhec_cmd.specs.CircuitReading.{glwe_at, lwe_at, gadget_at, params_at, is_range, range_at}
+use Rattle.fhec_cmd.specs.Numbers.{natural_field}
+use Rattle.fhec_cmd.specs.CircuitReading.{glwe_at, lwe_at, gadget_at, params_at, head_at}
 use Rattle.fhec_cmd.proofs.ReadingLemmas.{bind_some}
-use Rattle.fhec_cmd.proofs.NumberTexts.{at_given, test_passed, words_taken, words_again, natural_field_taken, natural_field_again, integer_field_taken, integer_field_again}
+use Rattle.fhec_cmd.proofs.NumberTexts.{at_given, words_taken, words_again, natural_field_taken, natural_field_again}
 
 -- ---- lines of two, three and four numbers, each after its words
 
-regroup_two : (a m b n end rest : List ℕ) → (a ++ (m ++ (b ++ (n ++ end)))) ++ rest ≡ a ++ (m ++ (b ++ (n ++ (end ++ rest))))
+pub regroup_two : (a m b n end rest : List ℕ) → (a ++ (m ++ (b ++ (n ++ end)))) ++ rest ≡ a ++ (m ++ (b ++ (n ++ (end ++ rest))))
 regroup_two a m b n end rest = simp append_assoc
 
-join_two : (bytes a m b n end r1 r2 rest : List ℕ) → bytes ≡ a ++ (m ++ r1) → r1 ≡ b ++ (n ++ r2) → r2 ≡ end ++ rest → bytes ≡ (a ++ (m ++ (b ++ (n ++ end)))) ++ rest
+pub join_two : (bytes a m b n end r1 r2 rest : List ℕ) → bytes ≡ a ++ (m ++ r1) → r1 ≡ b ++ (n ++ r2) → r2 ≡ end ++ rest → bytes ≡ (a ++ (m ++ (b ++ (n ++ end)))) ++ rest
 join_two bytes a m b n end r1 r2 rest first second last = let whole = regroup_two a m b n end rest in cc
 
 regroup_three : (a k b m c n end rest : List ℕ) → (a ++ (k ++ (b ++ (m ++ (c ++ (n ++ end)))))) ++ rest ≡ a ++ (k ++ (b ++ (m ++ (c ++ (n ++ (end ++ rest))))))
@@ -211,49 +207,51 @@ params_again p rest is =
     ap params_at (regroup_lines (glwe_line p.glwe) (lwe_line p.lwe) (gadget_line (codes "boot ") p.boot) (gadget_line (codes "switch ") p.switch) rest)
     ∙ rw (glwe_again p.glwe (lwe_line p.lwe ++ boot) is.glwe, lwe_again p.lwe boot is.lwe, gadget_again (codes "boot ") p.boot switch is.boot, gadget_again (codes "switch ") p.switch rest is.switch) refl
 
--- ---- a range
+abbrev pub title : List ℕ
+title = codes "fhec circuit 1" ++ line_feed
 
-pub holds : (test : Bool) → test ≡ true → T test
-holds test e = subst T (sym e) tt
+abbrev pub width_line : ℕ → List ℕ
+width_line width = codes "width " ++ (decimal width ++ line_feed)
 
-pub from_holds : (test : Bool) → T test → test ≡ true
-from_holds true t = refl
-from_holds false t = absurd t
+-- ---- the lines before the nodes
 
-range_rules : (r : Range) → is_range r ≡ true → IsRange r
-range_rules r e =
-    let a = and_parts (int_le (negsuc 32767) r.lo) (int_le r.lo r.hi && int_le r.hi (pos 65535)) e in
-    let b = and_parts (int_le r.lo r.hi) (int_le r.hi (pos 65535)) a.1 in
-    record { low = record { le = holds (int_le (negsuc 32767) r.lo) a.0 }; rising = record { le = holds (int_le r.lo r.hi) b.0 }; high = record { le = holds (int_le r.hi (pos 65535)) b.1 } }
+abbrev after_width_line : ℕ → List ℕ → Option (ℕ × Params × List ℕ)
+after_width_line width lines = params_at lines >>= λ params. Some (width, params.0, params.1)
 
-pub range_passes : (r : Range) → IsRange r → is_range r ≡ true
-range_passes r is = rw (from_holds (int_le (negsuc 32767) r.lo) is.low.le, from_holds (int_le r.lo r.hi) is.rising.le, from_holds (int_le r.hi (pos 65535)) is.high.le) refl
+abbrev after_width : ℕ × List ℕ → Option (ℕ × Params × List ℕ)
+after_width width = words_at line_feed width.1 >>= after_width_line width.0
 
-abbrev after_hi : ℤ → ℤ × List ℕ → Option (Range × List ℕ)
-after_hi lo hi = words_at line_feed hi.1 >>= λ rest. let range : Range = record { lo = lo; hi = hi.0 } in cond (is_range range) (Some (range, rest)) None
+abbrev after_title : List ℕ → Option (ℕ × Params × List ℕ)
+after_title head = natural_field (codes "width ") 1 16 head >>= after_width
 
-abbrev after_lo : ℤ × List ℕ → Option (Range × List ℕ)
-after_lo lo = integer_field (codes " ") lo.1 >>= after_hi lo.0
+pub record IsHead (bytes : List ℕ) (x : ℕ × Params × List ℕ) : Type 0 where
+  pub parts : bytes ≡ title ++ (width_line x.0 ++ (params_text x.1 ++ x.2))
+  pub low : 1 ≤ x.0
+  pub high : x.0 ≤ 16
+  pub params : IsParams x.1
 
-pub range_taken : (words bytes : List ℕ) (x : Range × List ℕ) → range_at words bytes ≡ Some x → (bytes ≡ range_line words x.0 ++ x.1) × IsRange x.0
-unfolding range_at
-range_taken words bytes x e =
-    let lo = bind_some (integer_field words bytes) after_lo x e in
-    let hi = bind_some (integer_field (codes " ") lo.0.1) (after_hi lo.0.0) x lo.2 in
-    let range : Range = record { lo = lo.0.0; hi = hi.0.0 } in
-    let rest = bind_some (words_at line_feed hi.0.1) (λ rest. cond (is_range range) (Some (range, rest)) None) x hi.2 in
-    let t = test_passed (is_range range) (range, rest.0) x rest.2 in
-    let whole = join_two bytes words (signed_decimal lo.0.0) (codes " ") (signed_decimal hi.0.0) line_feed lo.0.1 hi.0.1 rest.0 (integer_field_taken words bytes lo.0 lo.1) (integer_field_taken (codes " ") lo.0.1 hi.0 hi.1) (words_taken line_feed hi.0.1 rest.0 rest.1) in
-    subst (λ (y : Range × List ℕ). (bytes ≡ range_line words y.0 ++ y.1) × IsRange y.0) t.1 (whole, range_rules range t.0)
+join_head : (bytes a b n end c r1 r2 r3 rest : List ℕ) → bytes ≡ a ++ r1 → r1 ≡ b ++ (n ++ r2) → r2 ≡ end ++ r3 → r3 ≡ c ++ rest → bytes ≡ a ++ ((b ++ (n ++ end)) ++ (c ++ rest))
+join_head bytes a b n end c r1 r2 r3 rest first second third fourth = simp append_assoc cc
 
-mag_small : (z : ℤ) → negsuc 32767 ≤ℤ z → z ≤ℤ pos 65535 → mag z + 1 < 2 ^ 63
-mag_small (pos n) low high = omega (arith, ints)
-mag_small (negsuc n) low high = omega (arith, ints)
+pub head_taken : (bytes : List ℕ) (x : ℕ × Params × List ℕ) → head_at bytes ≡ Some x → IsHead bytes x
+unfolding head_at
+head_taken bytes x e =
+    let head = bind_some (words_at title bytes) after_title x e in
+    let width = bind_some (natural_field (codes "width ") 1 16 head.0) after_width x head.2 in
+    let lines = bind_some (words_at line_feed width.0.1) (after_width_line width.0.0) x width.2 in
+    let made : Params × List ℕ → ℕ × Params × List ℕ = λ params. (width.0.0, params.0, params.1) in
+    let params = bind_some (params_at lines.0) (λ params. Some (made params)) x lines.2 in
+    let t1 = words_taken title bytes head.0 head.1 in
+    let t2 = natural_field_taken (codes "width ") 1 16 head.0 width.0 width.1 in
+    let t3 = words_taken line_feed width.0.1 lines.0 lines.1 in
+    let t4 = params_taken lines.0 params.0 params.1 in
+    let whole = join_head bytes title (codes "width ") (decimal width.0.0) line_feed (params_text params.0.0) head.0 width.0.1 lines.0 params.0.1 t1 t2.0 t3 t4.0 in
+    at_given (IsHead bytes) (made params.0) x params.2 (record { parts = whole; low = t2.1; high = t2.2; params = t4.1 })
 
-pub range_again : (words : List ℕ) (r : Range) (rest : List ℕ) → IsRange r → range_at words (range_line words r ++ rest) ≡ Some (r, rest)
-unfolding range_at
-range_again words r rest is =
-    let lo_small : mag r.lo + 1 < 2 ^ 63 = mag_small r.lo is.low (omega (arith, ints)) in
-    let hi_small : mag r.hi + 1 < 2 ^ 63 = mag_small r.hi (omega (arith, ints)) is.high in
-    ap (range_at words) (regroup_two words (signed_decimal r.lo) (codes " ") (signed_decimal r.hi) line_feed rest)
-    ∙ rw (integer_field_again words r.lo (codes " " ++ (signed_decimal r.hi ++ (line_feed ++ rest))) lo_small refl, integer_field_again (codes " ") r.hi (line_feed ++ rest) hi_small refl, words_again line_feed rest, range_passes r is) refl
+pub head_again : (width : ℕ) (params : Params) (rest : List ℕ) → 1 ≤ width → width ≤ 16 → IsParams params → head_at (title ++ (width_line width ++ (params_text params ++ rest))) ≡ Some (width, params, rest)
+unfolding head_at
+head_again width params rest low high is =
+    let after : List ℕ = params_text params ++ rest in
+    let regrouped : width_line width ++ after ≡ codes "width " ++ (decimal width ++ (line_feed ++ after)) = simp append_assoc in
+    ap (λ (w : List ℕ). head_at (title ++ w)) regrouped
+    ∙ rw (words_again title (codes "width " ++ (decimal width ++ (line_feed ++ after))), natural_field_again (codes "width ") 1 16 width (line_feed ++ after) low high (omega (arith, high)) refl, words_again line_feed after, params_again params rest is) refl
