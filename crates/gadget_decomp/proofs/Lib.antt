@@ -1,0 +1,4 @@
+pub mod Places
+pub mod Decompositions
+pub mod DigitSizes
+pub mod Machine

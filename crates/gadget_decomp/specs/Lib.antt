@@ -1,0 +1,2 @@
+pub mod Decomposition
+pub mod Laws

@@ -1,0 +1,9 @@
+pub mod RowLoops
+pub mod Sums
+pub mod Signs
+pub mod Coefficients
+pub mod Polynomials
+pub mod Rotations
+pub mod Sizes
+pub mod ProductLoops
+mod Examples

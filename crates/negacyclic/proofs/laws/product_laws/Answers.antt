@@ -1,0 +1,19 @@
+use Rattle.negacyclic.proofs.Polynomials as polynomials
+use Rattle.negacyclic.proofs.Rotations.{product_by_rotations}
+use Rattle.negacyclic.proofs.laws.product_laws.Goals as goal
+
+pub returns : goal.returns
+returns _ = record {
+  product_length = polynomials.product_length;
+  product_words = polynomials.product_words;
+  zero_product = polynomials.zero_product;
+  product_commutative = polynomials.product_commutative;
+  product_associative = polynomials.product_associative;
+  sum_product = polynomials.sum_product;
+  product_sum = polynomials.product_sum;
+  difference_product = polynomials.difference_product;
+  product_difference = polynomials.product_difference;
+  scaled_product = polynomials.scaled_product;
+  product_scaled = polynomials.product_scaled;
+  product_by_rotations = product_by_rotations;
+}

@@ -1,0 +1,62 @@
+-- The laws of polynomials modulo X^N + 1, as facts of the definitions alone, at every N from 1.
+use Rattle.std.specs.Prelude.{◌≡◌, ◌<◌, ◌≤◌, ℕ, ◌+◌, ◌-◌, ◌*◌, ◌%◌, ◌^◌, List, ◌∷◌, map, replicate, length, slice_index, All, sum_by}
+use Rattle.word_ring.specs.Words.{IsWord, word_negation, size}
+use Rattle.word_ring.specs.Rows.{row_sum, row_difference, scaled_row}
+use Rattle.negacyclic.specs.Product.{sum_below, negacyclic_product, monomial, rotation, coefficient}
+
+-- polynomials are a commutative ring over the words
+pub record ProductLaws : Type 0 where
+  -- a product has as many coefficients as its first factor
+  pub product_length : (p q : List ℕ) → length (negacyclic_product p q) ≡ length p
+  -- each of them is a word
+  pub product_words : (p q : List ℕ) → All IsWord (negacyclic_product p q)
+  -- 0 times a polynomial is 0
+  pub zero_product : (p : List ℕ) → negacyclic_product (replicate (length p) 0) p ≡ replicate (length p) 0
+  -- a product may be taken in any order
+  pub product_commutative : (p q : List ℕ) → length p ≡ length q → negacyclic_product p q ≡ negacyclic_product q p
+  -- and in any grouping
+  pub product_associative : (p q r : List ℕ) → length p ≡ length q → length q ≡ length r → negacyclic_product (negacyclic_product p q) r ≡ negacyclic_product p (negacyclic_product q r)
+  -- a product goes into a sum on its left
+  pub sum_product : (p q r : List ℕ) → length p ≡ length q → length q ≡ length r → negacyclic_product (row_sum p q) r ≡ row_sum (negacyclic_product p r) (negacyclic_product q r)
+  -- and into one on its right
+  pub product_sum : (p q r : List ℕ) → length p ≡ length q → length q ≡ length r → negacyclic_product p (row_sum q r) ≡ row_sum (negacyclic_product p q) (negacyclic_product p r)
+  -- a product goes into a difference on its left
+  pub difference_product : (p q r : List ℕ) → length p ≡ length q → length q ≡ length r → negacyclic_product (row_difference p q) r ≡ row_difference (negacyclic_product p r) (negacyclic_product q r)
+  -- and into one on its right
+  pub product_difference : (p q r : List ℕ) → length p ≡ length q → length q ≡ length r → negacyclic_product p (row_difference q r) ≡ row_difference (negacyclic_product p q) (negacyclic_product p r)
+  -- a word in the first factor goes out
+  pub scaled_product : (factor : ℕ) (p q : List ℕ) → length p ≡ length q → negacyclic_product (scaled_row factor p) q ≡ scaled_row factor (negacyclic_product p q)
+  -- and so does one in the second
+  pub product_scaled : (factor : ℕ) (p q : List ℕ) → length p ≡ length q → negacyclic_product p (scaled_row factor q) ≡ scaled_row factor (negacyclic_product p q)
+  -- p times q is the sum over i of p_i times X^i * q
+  pub product_by_rotations : (p q : List ℕ) → length p ≡ length q → (c : ℕ) → c < length p → slice_index (negacyclic_product p q) c ≡ sum_below (length p) (λ i. slice_index p i * slice_index (rotation i q) c) % 2 ^ 64
+
+-- the powers of X, where X^N is -1
+pub record RotationLaws : Type 0 where
+  -- a power has n coefficients
+  pub monomial_length : (n by : ℕ) → length (monomial n by) ≡ n
+  -- X^0 is 1
+  pub monomial_none : (n : ℕ) → 0 < n → monomial n 0 ≡ 1 ∷ replicate (n - 1) 0
+  -- exponents add up
+  pub monomial_product : (n i j : ℕ) → 0 < n → negacyclic_product (monomial n i) (monomial n j) ≡ monomial n (i + j)
+  -- N more turns the sign
+  pub monomial_turned : (n i : ℕ) → 0 < n → monomial n (i + n) ≡ map word_negation (monomial n i)
+  -- a rotation keeps the number of coefficients
+  pub rotation_length : (by : ℕ) (p : List ℕ) → length (rotation by p) ≡ length p
+  -- each of them is a word
+  pub rotation_words : (by : ℕ) (p : List ℕ) → All IsWord (rotation by p)
+  -- a rotation by 0 changes no word
+  pub rotation_none : (p : List ℕ) → 0 < length p → All IsWord p → rotation 0 p ≡ p
+  -- a rotation of a rotation is by the sum
+  pub rotation_rotation : (i j : ℕ) (p : List ℕ) → 0 < length p → rotation i (rotation j p) ≡ rotation (i + j) p
+  -- coefficient c of X^by * p is coefficient c - by of p, and N places on it has the other sign
+  pub rotation_moves : (by : ℕ) (p : List ℕ) (c : ℕ) → c < length p → slice_index (rotation by p) c ≡ coefficient p (c + (2 * length p - by % (2 * length p)))
+
+-- how products change the distances of the coefficients to 0
+pub record ProductSizeLaws : Type 0 where
+  -- no coefficient of p times q is larger than the greatest of p times all of q together
+  pub product_size : (bound : ℕ) (p q : List ℕ) → length p ≡ length q → All (λ w. size w ≤ bound) p → All (λ w. size w ≤ bound * sum_by size q) (negacyclic_product p q)
+  -- a rotation keeps the size of the coefficient that it moves
+  pub rotation_size : (by : ℕ) (p : List ℕ) (c : ℕ) → c < length p → size (slice_index (rotation by p) c) ≡ size (slice_index p ((c + (2 * length p - by % (2 * length p))) % length p))
+  -- so a bound on all sizes stays one
+  pub rotation_bound : (bound by : ℕ) (p : List ℕ) → All (λ w. size w ≤ bound) p → All (λ w. size w ≤ bound) (rotation by p)

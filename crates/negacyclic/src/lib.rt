@@ -1,0 +1,17 @@
+//! Polynomials of words modulo X^N + 1, for N from 2 to 8192: the ring in which GLWE ciphertexts live
+//! (Chillotti et al. 2020, "TFHE: Fast Fully Homomorphic Encryption over the Torus", J. Cryptology 33).
+//!
+//! `poly` has the polynomials with their product and rotation, and `laws` what a proof may call for.
+//! Nothing but the two constructors takes memory.
+#![tactic(auto)]
+
+mod laws;
+mod poly;
+mod product;
+mod rows;
+#[cfg(test)]
+mod tests;
+
+pub use laws::{product_laws, product_size_laws, rotation_laws};
+pub use poly::{Poly, Scratch, mul_add, rotate_into};
+pub use word_ring::Lin;
