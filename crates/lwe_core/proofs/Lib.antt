@@ -1,1 +1,5 @@
 pub mod RowLoops
+pub mod PhaseParts
+pub mod DecodingParts
+pub mod PhaseLinear
+pub mod DecodingNear

@@ -1,2 +1,5 @@
 pub use Rattle.word_ring.specs.Words
 pub use Rattle.word_ring.specs.Rows
+pub mod Phase
+pub mod Decoding
+pub mod Encrypts

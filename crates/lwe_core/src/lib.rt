@@ -1,15 +1,22 @@
 //! LWE ciphertexts over words, of the two kinds that TFHE has (Chillotti et al. 2020, "TFHE: Fast
 //! Fully Homomorphic Encryption over the Torus", J. Cryptology 33).
 //!
-//! `kind` has the two kinds, and `lwe` the ciphertexts. Keys, phases and decoding are not here.
+//! `kind` has the two kinds, `lwe` the ciphertexts and `key` the secret keys; `phases` is what a key reads in
+//! a ciphertext, and `decoding` takes it back to a value.
 #![tactic(auto)]
 
+mod decoding;
+mod key;
 mod kind;
 mod lwe;
+mod phases;
 mod rows;
 #[cfg(test)]
 mod tests;
 
+pub use decoding::{decode, decoding_laws};
+pub use key::LweKey;
 pub use kind::{Big, Kind, Small};
 pub use lwe::Lwe;
+pub use phases::{phase, phase_laws};
 pub use word_ring::Lin;

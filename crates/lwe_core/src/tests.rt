@@ -1,6 +1,6 @@
 ghost use Rattle.std.specs.Prelude.{◌≡◌, IfOk, length};
 
-use crate::{Big, Lin, Lwe, Small};
+use crate::{Big, Lin, Lwe, LweKey, Small, decode, phase};
 use std::alloc::{AllocError, Global};
 use std::test::Fail;
 use word_ring::combine;
@@ -76,5 +76,79 @@ fn words_are_set_one_by_one(rt: HostRuntime) -> Result<(), Fail> {
     assert_eq!(rt; (small.word(0), small.word(1)), (3, 9));
     let other = Lwe::<Small>::new(rt.alloc(), 2)?;
     assert!(rt; !small.fits(&other));
+    Ok(())
+}
+
+#[test]
+fn phases_are_linear(rt: HostRuntime) -> Result<(), Fail> {
+    let key = LweKey::<Big>::from_bits(vec![in rt.alloc(); true, false]?);
+    assert_eq!(rt; (key.len(), key.ones()), (2, 1));
+    assert!(rt; key.bit(0) && !key.bit(1));
+
+    let mut total = ciphertext(rt.alloc(), 5, 7, 2305843009213693960)?;
+    let term = ciphertext(rt.alloc(), MINUS_ONE, 0, 4611686018427387901)?;
+    assert_eq!(rt; phase(&key, &total), 2305843009213693955);
+    assert_eq!(rt; phase(&key, &term), 4611686018427387902);
+    total.add_assign(&term);
+    assert_eq!(rt; phase(&key, &total), 6917529027641081857);
+    assert_eq!(rt; decode(phase(&key, &total), 2, 0), 3);
+    total.sub_assign(&term);
+    total.sub_assign(&term);
+    assert_eq!(rt; phase(&key, &total), 16140901064495857669);
+    total.add_assign(&term);
+    total.scale_assign(3);
+    assert_eq!(rt; phase(&key, &total), 6917529027641081865);
+    Ok(())
+}
+
+#[test]
+fn decodes_to_the_nearest(rt: HostRuntime) -> Result<(), Fail> {
+    // half a step below 1, and above it
+    assert_eq!(rt;
+        (
+            decode(1152921504606846975, 2, 0),
+            decode(1152921504606846976, 2, 0)
+        ),
+        (0, 1)
+    );
+    assert_eq!(rt;
+        (
+            decode(3458764513820540927, 2, 0),
+            decode(3458764513820540928, 2, 0)
+        ),
+        (1, 2)
+    );
+    // the greatest offset, and half a step above it
+    assert_eq!(rt; decode(16140901064495857664, 2, 0), 7);
+    assert_eq!(rt;
+        (
+            decode(17293822569102704639, 2, 0),
+            decode(17293822569102704640, 2, 0)
+        ),
+        (7, 0)
+    );
+    // over a least value below 0, and above it
+    assert_eq!(rt;
+        (decode(0, 2, -1), decode(16140901064495857664, 2, -1)),
+        (1, 0)
+    );
+    assert_eq!(rt; decode(985162418487296, 16, 5), 2);
+    // the least width and the greatest
+    assert_eq!(rt;
+        (
+            decode(2305843009213693951, 1, 0),
+            decode(2305843009213693952, 1, 0)
+        ),
+        (0, 1)
+    );
+    assert_eq!(rt; decode(13835058055282163712, 1, 0), 3);
+    assert_eq!(rt;
+        (
+            decode(492581209243647, 16, 0),
+            decode(492581209243648, 16, 0)
+        ),
+        (3, 4)
+    );
+    assert_eq!(rt; decode(18446603336221196288, 16, 0), 131071);
     Ok(())
 }

@@ -1,0 +1,5 @@
+use Rattle.lwe_core.proofs.DecodingNear.{laws}
+use Rattle.lwe_core.proofs.decoding.decoding_laws.Goals as goal
+
+pub returns : goal.returns
+returns _ = laws

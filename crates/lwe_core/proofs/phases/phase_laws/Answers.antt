@@ -1,0 +1,5 @@
+use Rattle.lwe_core.proofs.PhaseLinear.{laws}
+use Rattle.lwe_core.proofs.phases.phase_laws.Goals as goal
+
+pub returns : goal.returns
+returns _ = laws
