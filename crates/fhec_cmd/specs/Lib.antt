@@ -1,15 +1,5 @@
 pub use Rattle.port_store.specs.Files
 pub use Rattle.port_store.specs.Faults
-pub mod Ranges
-pub mod Reading
-pub mod Numbers
-pub mod Circuit
-pub mod NodeLines
-pub mod CircuitReading
-pub mod CircuitLaws
-pub mod Refusal
-pub mod CiphertextFile
-pub mod CiphertextReading
 pub mod CommandLine
 pub mod CommandView
 pub mod StatusLine
@@ -17,4 +7,5 @@ pub mod Outcome
 pub mod Run
 pub mod Commands
 pub mod Outside
+pub mod Headline
 pub mod Steps

@@ -9,8 +9,8 @@ use Rattle.fhec_cmd.specs.declared.status.FileKind.{FileKind}
 use Rattle.fhec_cmd.specs.declared.status.FileKind.TheVariants as file_kind
 use Rattle.fhec_cmd.specs.declared.status.LimitName.{LimitName}
 use Rattle.fhec_cmd.specs.declared.status.LimitName.TheVariants as limit_name
-use Rattle.fhec_cmd.specs.declared.cipher_file.fault.FileFault.{FileFault}
-use Rattle.fhec_cmd.specs.declared.cipher_file.fault.FileFault.TheVariants as file_fault
+use Rattle.cipher_files.specs.declared.fault.FileFault.{FileFault}
+use Rattle.cipher_files.specs.declared.fault.FileFault.TheVariants as file_fault
 
 -- the exit code
 abbrev pub code_of : Status → ℕ

@@ -1,25 +1,20 @@
 //! The commands of fhec over a store of files and a sink of bytes.
 #![tactic(auto)]
 
-ghost use Rattle.std.specs.Prelude.{◌≡◌, map};
+ghost use Rattle.std.specs.Prelude.{◌≡◌, Some, map};
 ghost use Rattle.std.specs.String.{string_bytes};
 ghost use Rattle.fhec_cmd.specs.CommandLine.{request_of, faulty};
+ghost use Rattle.port_store.specs.Files.{Files};
 ghost use Rattle.fhec_cmd.specs.Commands.{outcome_of};
+ghost use Rattle.fhec_cmd.specs.Headline.{Headline};
 ghost use Rattle.fhec_cmd.specs.Outside.{MayLeave, outside};
 
-mod cipher_file;
-mod circuit;
-mod circuit_text;
 mod commands;
-mod evaluation;
-mod ranges;
-mod reading;
 mod status;
 mod status_line;
 mod words;
 
-pub use cipher_file::{FileFault, ciphertext_file_laws};
-pub use circuit_text::circuit_text_laws;
+pub use cipher_files::FileFault;
 use port_store::{Sink, Store};
 pub use status::{CircuitFault, CircuitKind, FileKind, LimitFault, LimitName, Status};
 use std::alloc::Global;
@@ -41,6 +36,9 @@ pub fn fhec<S: Store, O: Sink>(
     ensures outcome { MayLeave (outcome_of (map string_bytes words.now)) result
         (outside S.files S.read_faults S.write_faults O.taken O.put_faults store.old out.old)
         (outside S.files S.read_faults S.write_faults O.taken O.put_faults store.new out.new) }
+    // The headline, over a store that tells its files: what a run that answers Ok writes decrypts to the
+    // values of its circuit on whole numbers, whatever its inputs stand for.
+    ensures headline { (before after : Files) → S.files store.old ≡ Some before → S.files store.new ≡ Some after → Headline (request_of (map string_bytes words.now)) result before after }
 {
     match words::parse(words) {
         CommandLine::Faulty => Status::Usage,

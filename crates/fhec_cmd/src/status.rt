@@ -4,7 +4,7 @@ ghost use Rattle.std.specs.Prelude.{◌≡◌};
 ghost use Rattle.fhec_cmd.specs.declared.status.Status.TheVariants.{Memory};
 ghost use Rattle.fhec_cmd.specs.Run.{cipher_refusal};
 
-use crate::cipher_file::{FileFault, FileRefusal};
+use cipher_files::{FileFault, FileRefusal};
 use std::alloc::{AllocError, AllocFailed};
 
 /// What a command answers.

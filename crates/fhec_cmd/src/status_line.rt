@@ -4,8 +4,8 @@ ghost use Rattle.std.specs.Prelude.{◌≡◌, IfOk};
 ghost use Rattle.std.specs.String.{string_bytes};
 ghost use Rattle.fhec_cmd.specs.StatusLine.{code_of, line_of, circuit_kind_word, file_kind_word, file_fault_word, limit_word};
 
-use crate::cipher_file::FileFault;
 use crate::status::{CircuitKind, FileKind, LimitName, Status};
+use cipher_files::FileFault;
 use std::alloc::{AllocError, Global};
 
 impl Status {
@@ -38,7 +38,7 @@ impl Status {
                 format!(in alloc; "fhec: circuit {line} {kind}")
             }
             Status::File(kind, fault) => {
-                let (kind, fault) = (kind.word(), fault.word());
+                let (kind, fault) = (kind.word(), fault_word(*fault));
                 format!(in alloc; "fhec: file {kind} {fault}")
             }
             Status::Limit(fault) => {
@@ -72,13 +72,11 @@ impl FileKind {
     }
 }
 
-impl FileFault {
-    fn word(&self) -> &'static str
-        ensures { result.now ≡ file_fault_word self.now }
-    {
-        match self {
-            FileFault::Later => "later",
-        }
+fn fault_word(fault: FileFault) -> &'static str
+    ensures { result.now ≡ file_fault_word fault }
+{
+    match fault {
+        FileFault::Later => "later",
     }
 }
 

@@ -3,6 +3,8 @@
 ghost use Rattle.std.specs.Prelude.{None};
 
 use crate::{CircuitFault, CircuitKind, FileFault, FileKind, LimitFault, LimitName, Status, fhec};
+use cipher_files::read_cipher;
+use lwe_core::{Big, LweKey, decode, phase};
 use port_store::{MemSink, MemStore, PortFault, Store};
 use sha2::{Digest, Sha256};
 use std::alloc::{AllocError, Global};
@@ -114,6 +116,24 @@ fn sums(alloc: Global, circuit: &str, inputs: &str, output: &str) -> Result<bool
             && store.bytes(inputs) == Some(INPUTS.as_slice())
             && sink.bytes().is_empty(),
     )
+}
+
+#[test]
+fn the_sum_decrypts(rt: HostRuntime) -> Result<(), Fail> {
+    let alloc = rt.alloc();
+    let mut store = store_of(alloc, CIRCUIT.as_bytes(), &INPUTS)?;
+    assert_eq!(rt; run_over(alloc, &mut store)?, Status::Ok);
+    let output = store.bytes("output").ok_or("an output")?;
+    let Ok((head, sums)) = read_cipher(alloc, output) else {
+        panic!(rt; "no ciphertexts");
+    };
+    assert_eq!(rt; (head.dim, head.width, sums.len()), (2, 2, 1));
+    // the inputs stand for 1 with the error 3, and for 2 with the error -2: 3 * 2^61 + 1
+    let key = LweKey::<Big>::from_bits(vec![in alloc; true, false]?);
+    let phase = phase(&key, &sums[0]);
+    assert_eq!(rt; phase, 6_917_529_027_641_081_857);
+    assert_eq!(rt; decode(phase, head.width, 0), 3);
+    Ok(())
 }
 
 #[test]

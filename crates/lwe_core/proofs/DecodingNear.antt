@@ -4,11 +4,9 @@ use lib.IntN.{negsuc}
 use Rattle.std.specs.Int.RustNames.{unsigned_abs}
 use Rattle.std.proofs.Math.Nat.{add-mul}
 use Rattle.std.proofs.lemmas.Int.{ints, int_rem_euclid_is}
-use Rattle.std.proofs.lemmas.Nat.{div-mul-add}
-use Rattle.word_ring.specs.Words.{size}
+use Rattle.std.proofs.lemmas.Nat.{div-mul-add, pow-add}
+use Rattle.word_ring.specs.Words.{size, SizeLaws}
 use Rattle.word_ring.specs.Signed.{word_of}
-use Rattle.word_ring.proofs.WordLaws.{size-centred}
-use Rattle.word_ring.proofs.RoundingParts.{pow_parts, pow_twice}
 use Rattle.lwe_core.specs.Phase.{phase_of}
 use Rattle.lwe_core.specs.Decoding.{decoded}
 use Rattle.lwe_core.proofs.DecodingParts.{offset_below}
@@ -60,43 +58,47 @@ room_for n width fits below =
     let s : ℕ = 2 ^ (63 - width) in
     let k : ℕ = 2 ^ width - (n + 1) in
     let e : 2 ^ width ≡ n + 1 + k = omega arith in
-    let whole : 2 ^ 63 ≡ 2 ^ width * s = pow_parts 63 width (63 - width) (omega arith) in
+    let together : 63 ≡ width + (63 - width) = omega arith in
+    let whole : 2 ^ 63 ≡ 2 ^ width * s = ap (λ k. 2 ^ k) together ∙ pow-add 2 width (63 - width) in
     let parts : 2 ^ width * s ≡ n * s + 1 * s + k * s = ap (λ j. j * s) e ∙ add-mul (n + 1) k s ∙ ap (λ j. j + k * s) (add-mul n 1 s) in
     omega (arith, whole, parts)
 
+one_more : (j n : ℕ) → n ≡ j + 1 → 2 ^ n ≡ 2 ^ j * 2 ^ 1
+one_more j n e = ap (λ k. 2 ^ k) e ∙ pow-add 2 j 1
+
 -- the same in numbers: the offset of a value n over the least
-near : (phase width n : ℕ) (lo value : ℤ) → width ≤ 62 → value ≡ lo +ℤ pos n → n < 2 ^ width → unsigned_abs (centred_error phase value width) < 2 ^ (62 - width) → decoded phase width lo ≡ n
-near phase width n lo value fits gap below small =
+near : SizeLaws → (phase width n : ℕ) (lo value : ℤ) → width ≤ 62 → value ≡ lo +ℤ pos n → n < 2 ^ width → unsigned_abs (centred_error phase value width) < 2 ^ (62 - width) → decoded phase width lo ≡ n
+near sizes phase width n lo value fits gap below small =
     let s : ℕ = 2 ^ (63 - width) in
     let h : ℕ = 2 ^ (62 - width) in
     let z : ℤ = pos phase -ℤ value *ℤ pos s in
     let e : ℕ = word_of z in
-    let twice : s ≡ 2 * h = pow_twice (63 - width) (62 - width) (omega arith) in
+    let twice : s ≡ 2 * h = omega (arith, one_more (62 - width) (63 - width) (omega arith)) in
     let room : n * s + s ≤ 2 ^ 63 = room_for n width fits below in
     let short : h ≤ 2 ^ 62 = omega (arith, twice, room) in
-    let close : size e < h = subst (λ k. k < h) (size-centred e) small in
+    let close : size e < h = subst (λ k. k < h) (sizes.size_centred e) small in
     let over : word_of ((pos phase -ℤ lo *ℤ pos s) +ℤ pos h) ≡ (e + (n * s + h)) % 2 ^ 64 =
     ap word_of (moved phase h (n * s) (lo *ℤ pos s) (value *ℤ pos s) (times_gap lo value n s gap)) ∙ word_of-plus z (n * s + h) in
     let apart : (e + (n * s + h)) % 2 ^ 64 ≡ n * s + (e + h) % 2 ^ 64 = no_wrap e h (n * s) short close (omega (arith, twice, room)) in
     ap (λ x. x / s) (over ∙ apart) ∙ div-mul-add n s ((e + h) % 2 ^ 64) (omega (arith, twice, left_over e h short close))
 
-near_value : (phase width : ℕ) (lo hi value : ℤ) → width ≤ 62 → unsigned_abs (centred_error phase value width) < 2 ^ (62 - width) → lo ≤ℤ value → value ≤ℤ hi → (hi -ℤ lo) <ℤ pos (2 ^ width) → pos (decoded phase width lo) ≡ (value -ℤ lo)
-near_value phase width lo hi value fits small least most few =
+near_value : SizeLaws → (phase width : ℕ) (lo hi value : ℤ) → width ≤ 62 → unsigned_abs (centred_error phase value width) < 2 ^ (62 - width) → lo ≤ℤ value → value ≤ℤ hi → (hi -ℤ lo) <ℤ pos (2 ^ width) → pos (decoded phase width lo) ≡ (value -ℤ lo)
+near_value sizes phase width lo hi value fits small least most few =
     let n : ℕ = unsigned_abs (value -ℤ lo) in
     let is : value -ℤ lo ≡ pos n = not_negative (value -ℤ lo) (omega (arith, ints, least)) in
     let gap : value ≡ lo +ℤ pos n = omega (arith, ints, is) in
     let below : n < 2 ^ width = omega (arith, ints, is, most, few) in
-    ap pos (near phase width n lo value fits gap below small) ∙ sym is
+    ap pos (near sizes phase width n lo value fits gap below small) ∙ sym is
 
 -- a word is below 2^64
 word_of_below : (z : ℤ) → word_of z < 2 ^ 64
 word_of_below (pos a) = omega arith
 word_of_below (negsuc a) = omega arith
 
-pub laws : DecodingLaws
-laws = record {
-  decoded_near = near_value;
+pub laws : SizeLaws → DecodingLaws
+laws sizes = record {
+  decoded_near = near_value sizes;
   decoded_below = λ phase width lo fits. offset_below _ width (word_of_below ((pos phase -ℤ lo *ℤ pos (2 ^ (63 - width))) +ℤ pos (2 ^ (62 - width)))) fits;
   decoded_encrypted = λ bits words width bound lo hi value fits stands small least most few.
-      near_value (phase_of bits words) width lo hi value fits (omega (arith, stands, small)) least most few;
+      near_value sizes (phase_of bits words) width lo hi value fits (omega (arith, stands, small)) least most few;
 }

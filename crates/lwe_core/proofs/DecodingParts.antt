@@ -3,11 +3,10 @@ use Rattle.std.proofs.Common.{◌≡◌, ℕ, ◌+◌, ◌-◌, ◌*◌, ◌/◌
 use lib.IntN.{neg_ℤ, negsuc}
 use Prim.Native.Nat.{suc}
 use Rattle.std.specs.Int.RustNames.{unsigned_abs}
-use Rattle.std.proofs.Math.Nat.{add-mul}
+use Rattle.std.proofs.Math.Nat.{add-mul, div-lt_iff_lt-mul, pow-le-pow_right}
 use Rattle.std.proofs.lemmas.Int.{ints, int_rem_euclid_is}
-use Rattle.std.proofs.lemmas.Nat.{pow_pos, mod_below}
+use Rattle.std.proofs.lemmas.Nat.{pow_pos, pow-add}
 use Rattle.word_ring.specs.Signed.{word_of}
-use Rattle.word_ring.proofs.RoundingParts.{quotient_residue, pow_up}
 use Rattle.lwe_core.specs.Decoding.{decoded}
 
 -- the word of a number less another
@@ -37,12 +36,12 @@ decoded_is phase width bits step half least distance placed lo fits bits_are ste
 -- an offset is below 2^(width + 1)
 pub offset_below : (x width : ℕ) → x < 2 ^ 64 → width ≤ 62 → x / 2 ^ (63 - width) < 2 ^ (width + 1)
 offset_below x width word small =
-    let e : x % 2 ^ 64 ≡ x = omega arith in
-    let top : 64 - (63 - width) ≡ width + 1 = omega arith in
-    subst (λ n. x / 2 ^ (63 - width) < 2 ^ n) top
-    (subst (λ n. n < 2 ^ (64 - (63 - width))) (sym (ap (λ n. n / 2 ^ (63 - width)) (sym e) ∙ quotient_residue x (63 - width) (omega arith)))
-    (mod_below (x / 2 ^ (63 - width)) (2 ^ (64 - (63 - width))) (pow_pos (64 - (63 - width)))))
+    let together : 64 ≡ width + 1 + (63 - width) = omega arith in
+    let whole : 2 ^ 64 ≡ 2 ^ (width + 1) * 2 ^ (63 - width) = ap (λ k. 2 ^ k) together ∙ pow-add 2 (width + 1) (63 - width) in
+    (div-lt_iff_lt-mul (pow_pos (63 - width))).1 (subst (λ n. x < n) whole word)
 
 -- and so fits 32 bits
 pub offset_fits : (x width : ℕ) → x < 2 ^ 64 → width ≤ 16 → x / 2 ^ (63 - width) < 2 ^ 32
-offset_fits x width word small = omega (arith, offset_below x width word (omega arith), pow_up (width + 1) 17 (omega arith))
+offset_fits x width word small =
+    let most : 2 ^ (width + 1) ≤ 2 ^ 17 = pow-le-pow_right {n = 2} (omega arith) {i = width + 1} {j = 17} (omega arith) in
+    omega (arith, offset_below x width word (omega arith), most)

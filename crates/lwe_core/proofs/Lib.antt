@@ -3,3 +3,4 @@ pub mod PhaseParts
 pub mod DecodingParts
 pub mod PhaseLinear
 pub mod DecodingNear
+pub mod NoiseParts

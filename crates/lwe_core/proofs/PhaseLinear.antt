@@ -6,12 +6,11 @@ use Rattle.std.proofs.lemmas.Nat.{mul-mod_second}
 use Rattle.std.proofs.lemmas.List.{get_or-map}
 use Rattle.std.proofs.lemmas.List.Sums.{sum_by-cons}
 use Rattle.word_ring.specs.Words.{word_sum, word_difference, word_product}
-use Rattle.word_ring.specs.Rows.{row_sum, row_difference, scaled_row, sum_with_scaled}
-use Rattle.word_ring.proofs.RowLaws.{get_or-zip_words}
+use Rattle.word_ring.specs.Rows.{row_sum, row_difference, scaled_row, sum_with_scaled, RowLaws}
 use Rattle.lwe_core.specs.Phase.{masked_sum, phase_of, PhaseLaws}
 
 -- the first word of the mask, and the rest
-masked-cons : (b : Bool) (bits : List Bool) (x : ℕ) (xs : List ℕ) → masked_sum (b ∷ bits) (x ∷ xs) ≡ cond b x 0 + masked_sum bits xs
+pub masked-cons : (b : Bool) (bits : List Bool) (x : ℕ) (xs : List ℕ) → masked_sum (b ∷ bits) (x ∷ xs) ≡ cond b x 0 + masked_sum bits xs
 masked-cons b bits x xs = sum_by-cons (λ p. cond p.0 p.1 0) (b, x) (zip bits xs)
 
 masked-sum : (bits : List Bool) (xs ys : List ℕ) → length xs ≡ length ys → masked_sum bits (row_sum xs ys) % 2 ^ 64 ≡ (masked_sum bits xs + masked_sum bits ys) % 2 ^ 64
@@ -70,7 +69,7 @@ sum_parts bx by mx my b m body mask = omega arith
 difference_parts : (bx by mx my b m : ℕ) → b ≡ word_difference bx by → (m + my) % 2 ^ 64 ≡ mx % 2 ^ 64 → word_difference b m ≡ word_difference (word_difference bx mx) (word_difference by my)
 difference_parts bx by mx my b m body mask = omega arith
 
-multiple_parts : (f bx mx b m : ℕ) → b % 2 ^ 64 ≡ (f * bx) % 2 ^ 64 → m % 2 ^ 64 ≡ (f * mx) % 2 ^ 64 → word_difference b m ≡ word_product f (word_difference bx mx)
+pub multiple_parts : (f bx mx b m : ℕ) → b % 2 ^ 64 ≡ (f * bx) % 2 ^ 64 → m % 2 ^ 64 ≡ (f * mx) % 2 ^ 64 → word_difference b m ≡ word_product f (word_difference bx mx)
 multiple_parts f bx mx b m body mask =
     let d : ℕ = word_difference bx mx in
     let e : (d + mx) % 2 ^ 64 ≡ bx % 2 ^ 64 = omega arith in
@@ -81,20 +80,20 @@ multiple_parts f bx mx b m body mask =
 body_of_multiple : (f : ℕ) (xs : List ℕ) (n : ℕ) → n < length xs → get_or (scaled_row f xs) n 0 ≡ word_product f (get_or xs n 0)
 body_of_multiple f xs n inside = get_or-map (word_product f) xs n 0 0 inside
 
-pub laws : PhaseLaws
-laws = record {
+pub laws : RowLaws → PhaseLaws
+laws rows = record {
   phase_sum = λ bits xs ys p q.
       let n : ℕ = length bits in
-      sum_parts (get_or xs n 0) (get_or ys n 0) (masked_sum bits xs) (masked_sum bits ys) _ _ (get_or-zip_words word_sum xs ys n 0 (omega arith) (omega arith)) (masked-sum bits xs ys (p ∙ sym q));
+      sum_parts (get_or xs n 0) (get_or ys n 0) (masked_sum bits xs) (masked_sum bits ys) _ _ (rows.zip_word word_sum xs ys n (omega arith) (omega arith)) (masked-sum bits xs ys (p ∙ sym q));
   phase_difference = λ bits xs ys p q.
       let n : ℕ = length bits in
-      difference_parts (get_or xs n 0) (get_or ys n 0) (masked_sum bits xs) (masked_sum bits ys) _ _ (get_or-zip_words word_difference xs ys n 0 (omega arith) (omega arith)) (masked-difference bits xs ys (p ∙ sym q));
+      difference_parts (get_or xs n 0) (get_or ys n 0) (masked_sum bits xs) (masked_sum bits ys) _ _ (rows.zip_word word_difference xs ys n (omega arith) (omega arith)) (masked-difference bits xs ys (p ∙ sym q));
   phase_multiple = λ bits f xs p.
       let n : ℕ = length bits in
       multiple_parts f (get_or xs n 0) (masked_sum bits xs) _ _ (let body = body_of_multiple f xs n (omega arith) in omega (arith, body)) (masked-multiple bits f xs);
   phase_sum_with_multiple = λ bits f xs ys p q.
       let n : ℕ = length bits in
       let scaled : word_difference (f * get_or ys n 0) (masked_sum bits (scaled_row f ys)) ≡ word_product f (phase_of bits ys) = multiple_parts f (get_or ys n 0) (masked_sum bits ys) (f * get_or ys n 0) (masked_sum bits (scaled_row f ys)) refl (masked-multiple bits f ys) in
-      sum_parts (get_or xs n 0) (f * get_or ys n 0) (masked_sum bits xs) (masked_sum bits (scaled_row f ys)) _ _ (get_or-zip_words (λ x y. word_sum x (f * y)) xs ys n 0 (omega arith) (omega arith)) (masked-sum_with_multiple bits f xs ys (p ∙ sym q))
+      sum_parts (get_or xs n 0) (f * get_or ys n 0) (masked_sum bits xs) (masked_sum bits (scaled_row f ys)) _ _ (rows.zip_word (λ x y. word_sum x (f * y)) xs ys n (omega arith) (omega arith)) (masked-sum_with_multiple bits f xs ys (p ∙ sym q))
       ∙ ap (word_sum (phase_of bits xs)) scaled ∙ omega arith;
 }

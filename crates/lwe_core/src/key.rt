@@ -1,7 +1,8 @@
 //! Secret keys.
 
 ghost use Rattle.std.specs.Prelude.{◌≡◌, ◌<◌, List, Bool, false, length};
-ghost use Rattle.std.specs.List.{count_by, slice_index_or};
+ghost use Rattle.std.specs.List.{slice_index_or};
+ghost use Rattle.lwe_core.specs.Secret.{ones_of};
 
 use crate::kind::Kind;
 use std::marker::{Model, PhantomData};
@@ -50,7 +51,7 @@ impl<K: Kind> LweKey<K> {
 
     /// The number of bits that are 1, on which bounds on noise stand.
     pub fn ones(&self) -> usize
-        ensures { result ≡ count_by (λ bit. bit) self.now }
+        ensures { result ≡ ones_of self.now }
     {
         let mut count = 0;
         for bit in self.bits.iter() {

@@ -2,21 +2,23 @@
 //! Fully Homomorphic Encryption over the Torus", J. Cryptology 33).
 //!
 //! `kind` has the two kinds, `lwe` the ciphertexts and `key` the secret keys; `phases` is what a key reads in
-//! a ciphertext, and `decoding` takes it back to a value.
+//! a ciphertext, `decoding` takes it back to a value, and `noise` bounds how far off it is.
 #![tactic(auto)]
 
 mod decoding;
 mod key;
 mod kind;
 mod lwe;
+mod noise;
 mod phases;
 mod rows;
 #[cfg(test)]
 mod tests;
 
-pub use decoding::{decode, decoding_laws};
+pub use decoding::{decode, decoding_laws, encode};
 pub use key::LweKey;
 pub use kind::{Big, Kind, Small};
 pub use lwe::Lwe;
+pub use noise::noise_laws;
 pub use phases::{phase, phase_laws};
 pub use word_ring::Lin;

@@ -6,7 +6,7 @@ ghost use Rattle.lwe_core.specs.Phase.{phase_of, PhaseLaws};
 use crate::key::LweKey;
 use crate::kind::Kind;
 use crate::lwe::Lwe;
-use word_ring::wsub;
+use word_ring::{row_laws, wsub};
 
 /// What the key reads in a ciphertext: the body minus the mask words whose bit is 1, modulo 2^64
 /// (Chillotti et al. 2020, the phase of a TLWE sample).
@@ -28,4 +28,6 @@ pub fn phase<K: Kind>(key: &LweKey<K>, c: &Lwe<K>) -> u64
 #[inline]
 pub fn phase_laws()
     ensures { PhaseLaws }
-{}
+{
+    row_laws();
+}

@@ -1,6 +1,8 @@
 ghost use Rattle.std.specs.Prelude.{◌≡◌, IfOk, length};
 
-use crate::{Big, Lin, Lwe, LweKey, Small, decode, phase};
+use crate::{
+    Big, Lin, Lwe, LweKey, Small, decode, decoding_laws, encode, noise_laws, phase, phase_laws,
+};
 use std::alloc::{AllocError, Global};
 use std::test::Fail;
 use word_ring::combine;
@@ -151,4 +153,24 @@ fn decodes_to_the_nearest(rt: HostRuntime) -> Result<(), Fail> {
     );
     assert_eq!(rt; decode(18446603336221196288, 16, 0), 131071);
     Ok(())
+}
+
+#[test]
+fn values_have_places(rt: HostRuntime) {
+    for (value, width, place) in [
+        (3, 2, 6917529027641081856),
+        (-1, 2, 16140901064495857664),
+        (0, 16, 0),
+        (-3, 1, 4611686018427387904),
+        (131071, 16, 18446603336221196288),
+    ] {
+        assert_eq!(rt; encode(value, width), place, "{value} at width {width}");
+    }
+}
+
+#[test]
+fn laws_are_free() {
+    phase_laws();
+    decoding_laws();
+    noise_laws();
 }

@@ -1,3 +1,4 @@
 pub mod WordLaws
 pub mod RowLaws
 pub mod RoundingParts
+pub mod SignedParts

@@ -1,5 +1,5 @@
 -- The rows of a weighted sum, one term more.
-use Rattle.std.proofs.Common.{⊎_elim, ◌≡◌, ℕ, ◌+◌, ◌*◌, ◌%◌, ◌^◌, ◌<◌, min, List, [], ◌∷◌, ◌++◌, length, get_or, take, map, Some, arith, ap, sym, ◌∙◌, refl, zero-add, add-zero, add_assoc}
+use Rattle.std.proofs.Common.{⊎_elim, ◌≡◌, ℕ, ◌+◌, ◌*◌, ◌%◌, ◌^◌, ◌<◌, min, List, [], ◌∷◌, ◌++◌, length, get_or, take, map, Some, arith, ap, sym, ◌∙◌, refl, zero-add, add-zero, add_assoc, add_comm}
 use Rattle.std.proofs.Math.Nat.{mod-add-mod}
 use Rattle.std.specs.List.{slice_get, All, zip, sum_by, enumerate_from}
 use Rattle.std.proofs.lemmas.List.{length-map, get_or-map, same_lists, get_or_default, take_more, length-take-le}
@@ -9,7 +9,8 @@ use Rattle.std.proofs.lemmas.Slice.Zip.{length-zip, get_or-zip}
 use Rattle.std.specs.Option.{IfSome}
 use Rattle.std.proofs.lemmas.Option.{slice_get_read, slice_get_cases}
 use Rattle.word_ring.specs.Words.{IsWord, word_sum}
-use Rattle.word_ring.specs.Rows.{rows_at, zip_words, weighted_sum, combined, sum_with_scaled}
+use Rattle.word_ring.specs.Rows.{rows_at, zip_words, weighted_sum, combined, sum_with_scaled, RowLaws}
+use Rattle.std.proofs.lemmas.List.Sums.{sum_by-cons}
 
 -- an operation on two rows has as many words as the shorter
 pub length-zip_words : (f : ℕ → ℕ → ℕ) (xs ys : List ℕ) → length (zip_words f xs ys) ≡ min (length xs) (length ys)
@@ -106,3 +107,29 @@ named_from_all P values i each =
 -- and so of each named value, as `combine` asks where all its values have one shape
 pub All-named : {T : Type 0} (P : T → Type 0) (values : List T) (places : List ℕ) → All P values → All (λ place. IfSome (slice_get values place) P) places
 All-named P values places each = λ k d h. named_from_all P values (get_or places k d) each
+
+-- a first term is added to the sum of the others
+first_mod : (a s w y z t : ℕ) → t ≡ w * y + s → y ≡ z → (a + t) % 2 ^ 64 ≡ word_sum ((a + s) % 2 ^ 64) (w * z)
+first_mod a s w y z t e f = step_mod a s w y z t (e ∙ add_comm (w * y) s) f
+
+combined-first : (into weights : List ℕ) (rows : List (List ℕ)) (weight : ℕ) (row : List ℕ) → length row ≡ length into → combined into (weight ∷ weights) (row ∷ rows) ≡ sum_with_scaled (combined into weights rows) weight row
+combined-first into weights rows weight row e =
+    let before : List ℕ = combined into weights rows in
+    let long : length before ≡ length into = length-combined into weights rows in
+    let whole : length (combined into (weight ∷ weights) (row ∷ rows)) ≡ length into = length-combined into (weight ∷ weights) (row ∷ rows) in
+    let other : length (sum_with_scaled before weight row) ≡ min (length before) (length row) = length-zip_words (λ x y. word_sum x (weight * y)) before row in
+    same_lists _ _ (omega arith)
+    (λ i d h. let here : i < length into = omega arith in
+    get_or-combined into (weight ∷ weights) (row ∷ rows) i d here
+    ∙ first_mod (get_or into i d) (weighted_sum weights rows i) weight (get_or row i 0) (get_or row i d) _ (sum_by-cons (λ p. p.0 * get_or p.1 i 0) (weight, row) (zip weights rows)) (get_or_default row i 0 d (omega arith))
+    ∙ ap (λ n. word_sum n (weight * get_or row i d)) (sym (get_or-combined into weights rows i d here))
+    ∙ sym (get_or-zip_words (λ x y. word_sum x (weight * y)) before row i d (omega arith) (omega arith)))
+
+pub laws : RowLaws
+laws = record {
+  zip_length = length-zip_words;
+  zip_word = λ f xs ys i p q. get_or-zip_words f xs ys i 0 p q;
+  combined_length = length-combined;
+  combined_none = combined_none;
+  combined_first = combined-first;
+}

@@ -1,7 +1,7 @@
 -- Rows: lists of words, on which the ring's operations go word by word.
-use Rattle.std.specs.Prelude.{ℕ, ◌+◌, ◌*◌, ◌%◌, ◌^◌, List, [], map, slice_index}
+use Rattle.std.specs.Prelude.{◌≡◌, ℕ, ◌+◌, ◌*◌, ◌%◌, ◌^◌, ◌<◌, min, List, [], ◌∷◌, All, length, map, slice_index}
 use Rattle.std.specs.List.{zip, sum_by, enumerate_from, slice_index_or}
-use Rattle.word_ring.specs.Words.{word_sum, word_difference, word_product}
+use Rattle.word_ring.specs.Words.{IsWord, word_sum, word_difference, word_product}
 
 -- an operation at each place of two rows
 abbrev pub zip_words : (ℕ → ℕ → ℕ) → List ℕ → List ℕ → List ℕ
@@ -34,3 +34,16 @@ combined into weights rows = map (λ p. (p.1 + weighted_sum weights rows p.0) % 
 -- the words of the values at these places
 abbrev pub rows_at : {T : Type 0} → (T → List ℕ) → List T → List ℕ → List (List ℕ)
 rows_at words values places = map (λ place. slice_index_or (map words values) place []) places
+
+-- rows word by word, and weighted sums term by term
+pub record RowLaws : Type 0 where
+  -- an operation on two rows has as many words as the shorter
+  pub zip_length : (operation : ℕ → ℕ → ℕ) (xs ys : List ℕ) → length (zip_words operation xs ys) ≡ min (length xs) (length ys)
+  -- and goes place by place
+  pub zip_word : (operation : ℕ → ℕ → ℕ) (xs ys : List ℕ) (i : ℕ) → i < length xs → i < length ys → slice_index (zip_words operation xs ys) i ≡ operation (slice_index xs i) (slice_index ys i)
+  -- a weighted sum keeps the number of words
+  pub combined_length : (into weights : List ℕ) (rows : List (List ℕ)) → length (combined into weights rows) ≡ length into
+  -- without a term it leaves a row of words as it is
+  pub combined_none : (into : List ℕ) → All IsWord into → combined into [] [] ≡ into
+  -- and a first term is the sum of the others with its multiple
+  pub combined_first : (into weights : List ℕ) (rows : List (List ℕ)) (weight : ℕ) (row : List ℕ) → length row ≡ length into → combined into (weight ∷ weights) (row ∷ rows) ≡ sum_with_scaled (combined into weights rows) weight row

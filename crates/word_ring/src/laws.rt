@@ -1,6 +1,8 @@
 //! The laws of words, as contracts that a proof may call for.
 
 ghost use Rattle.word_ring.specs.Words.{RingLaws, ResidueLaws, SizeLaws, CentredLaws};
+ghost use Rattle.word_ring.specs.Signed.{SignedLaws};
+ghost use Rattle.word_ring.specs.Rows.{RowLaws};
 
 /// Words are a commutative ring.
 #[inline]
@@ -24,4 +26,16 @@ pub fn size_laws()
 #[inline]
 pub fn centred_laws()
     ensures { CentredLaws }
+{}
+
+/// Taking signed numbers to their words keeps sums, differences and products.
+#[inline]
+pub fn signed_laws()
+    ensures { SignedLaws }
+{}
+
+/// Rows go word by word, and weighted sums of them term by term.
+#[inline]
+pub fn row_laws()
+    ensures { RowLaws }
 {}

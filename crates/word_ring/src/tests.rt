@@ -1,6 +1,7 @@
 use crate::{
     Lin, centred, centred_laws, combine, mod_switch, residue_laws, ring_laws, round_to,
-    rounding_laws, size_laws, switching_laws, wadd, wmul, wneg, wsub,
+    rounding_laws, row_laws, signed_laws, size_laws, switching_laws, wadd, wmul, wneg, word_of,
+    wsub,
 };
 
 /// The word of -1.
@@ -47,6 +48,7 @@ fn signs(rt: HostRuntime) {
     ] {
         assert_eq!(rt; wneg(w), negation, "-{w}");
         assert_eq!(rt; centred(w), number, "centred {w}");
+        assert_eq!(rt; word_of(number), w, "the word of {number}");
     }
 }
 
@@ -88,6 +90,8 @@ fn laws_are_free() {
     centred_laws();
     rounding_laws();
     switching_laws();
+    row_laws();
+    signed_laws();
 }
 
 #[test]

@@ -2,6 +2,7 @@
 
 ghost use Rattle.std.specs.Prelude.{◌≡◌};
 ghost use Rattle.word_ring.specs.Words.{word_sum, word_difference, word_product, word_negation, centred as centred_of};
+ghost use Rattle.word_ring.specs.Signed.{word_of as word_of_number};
 
 /// The sum modulo 2^64.
 #[inline]
@@ -41,4 +42,12 @@ pub fn centred(w: u64) -> i64
     ensures { result ≡ centred_of w }
 {
     w.cast_signed()
+}
+
+/// The word that is congruent to a signed number.
+#[inline]
+pub fn word_of(number: i64) -> u64
+    ensures { result ≡ word_of_number number }
+{
+    number.cast_unsigned()
 }

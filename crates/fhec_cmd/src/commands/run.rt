@@ -1,28 +1,32 @@
 //! `run`: a linear circuit on encrypted inputs.
 
-ghost use Rattle.std.specs.Prelude.{◌≡◌, ◌≤◌, ◌<◌, ◌⊎◌, List, ℕ, IsTrue, length, map, Option, Some, None, IfOk, IsErrOf};
-ghost use Rattle.sha2.specs.Sha256.{sha256};
-ghost use Rattle.word_ring.specs.Rows.{combined};
+ghost use Rattle.std.specs.Prelude.{◌≡◌, ◌≤◌, ◌<◌, ◌+◌, ◌⊎◌, List, ℕ, IsTrue, All, length, map, Option, Some, None, IfOk, IsErrOf};
 ghost use Rattle.port_store.specs.Files.{Files, Bytes};
 ghost use Rattle.port_store.specs.Faults.{Rises};
-ghost use Rattle.fhec_cmd.specs.Circuit.{params_text, IsGlwe, IsCircuit};
-ghost use Rattle.fhec_cmd.specs.CiphertextFile.{file_of, HasFileLimits, ciphertext_bytes};
+ghost use Rattle.circuit_file.specs.Circuit.{IsGlwe, IsCircuit, dimension as dimension_of};
+ghost use Rattle.cipher_files.specs.CiphertextFile.{file_of, HasFileLimits, ciphertext_bytes};
+ghost use Rattle.cipher_files.specs.ParamsDigest.{params_digest as digest_of_params};
+ghost use Rattle.fhec_cmd.specs.CommandLine.{run as run_request};
 ghost use Rattle.fhec_cmd.specs.CommandView.{run_view};
-ghost use Rattle.fhec_cmd.specs.Run.{is_input_of as input_test, circuit_in as circuit_of_text, circuit_from as circuit_of_file, inputs_in as inputs_of, output_file, run_output, run_outcome, are_input_ranges as ranges_test, params_digest as digest_of_params};
+ghost use Rattle.fhec_cmd.specs.Headline.{Headline};
+ghost use Rattle.fhec_cmd.specs.Run.{is_input_of as input_test, circuit_in as circuit_of_text, circuit_from as circuit_of_file, inputs_in as inputs_of, output_file, run_output, run_outcome, are_input_ranges as ranges_test};
 ghost use Rattle.fhec_cmd.specs.Outside.{MayLeave};
 ghost use Rattle.fhec_cmd.specs.Steps.{Gives};
 
-use crate::cipher_file::{CipherHead, FileFault, FileRefusal, print_cipher, read_cipher};
-use crate::circuit::{Circuit, Out, Params, Range};
-use crate::circuit_text::{CircuitRefusal, put_params, read_circuit};
 use crate::commands::files::{read_file, write_file};
-use crate::evaluation::outputs_of;
 use crate::status::{CircuitFault, CircuitKind, FileKind, Status};
 use crate::words::{RunNames, is_no_eval};
+use cipher_files::{
+    CipherHead, FileFault, FileRefusal, ciphertext_file_laws, params_digest, print_cipher,
+    read_cipher,
+};
+use circuit_file::{
+    Circuit, CircuitRefusal, Out, Range, circuit_text_laws, dimension, read_circuit,
+};
+use circuit_run::{evaluation_laws, outputs_of};
 use lists::List;
 use lwe_core::{Big, Lwe};
 use port_store::Store;
-use sha2::{Digest, Sha256};
 use std::alloc::{AllocError, Global};
 
 /// The greatest circuit file, in bytes.
@@ -47,17 +51,6 @@ fn circuit_in(alloc: Global, text: &[u8]) -> Result<Circuit, Status>
     }
 }
 
-/// The SHA-256 of the parameter lines, which ties a file to its parameters.
-fn params_digest(alloc: Global, params: &Params) -> Result<[u8; 32], AllocError>
-    ensures { IfOk result (λ digest. digest ≡ sha256 (params_text params.now)) }
-{
-    let mut text = String::from_str(alloc, "")?;
-    put_params(&mut text, *params)?;
-    let mut hasher = Sha256::new();
-    hasher.update(text.as_bytes());
-    Ok(hasher.finalize())
-}
-
 /// Whether the ranges are those of the inputs, in order.
 fn are_input_ranges(inputs: &[Range], ranges: &[(i64, i64)]) -> bool
     ensures value { result ≡ ranges_test inputs.now ranges.now }
@@ -75,14 +68,14 @@ fn are_input_ranges(inputs: &[Range], ranges: &[(i64, i64)]) -> bool
 
 /// Whether the file of this head holds the inputs of the circuit, whose parameters have this digest.
 fn is_input_of(circuit: &Circuit, digest: &[u8; 32], head: &CipherHead) -> bool
-    requires digest { digest.now ≡ digest_of_params circuit.now }
+    requires digest { digest.now ≡ digest_of_params circuit.now.params }
     requires glwe { IsGlwe circuit.now.params.glwe }
     ensures value { (list : List (List ℕ)) → result ≡ input_test circuit.now (file_of head.now list) }
     ensures number { IsTrue result → length circuit.now.inputs ≡ length head.now.ranges }
+    ensures dim { IsTrue result → head.now.dim ≡ dimension_of circuit.now.params }
 {
-    let glwe = circuit.params.glwe;
     head.digest == *digest
-        && head.dim == glwe.k * (1 << glwe.log_n)
+        && head.dim == dimension(&circuit.params)
         && head.width == circuit.width
         && are_input_ranges(circuit.inputs.as_slice(), head.ranges.as_slice())
 }
@@ -99,6 +92,7 @@ fn inputs_in(
     ensures not_read { IsErrOf result Status.Read → ⊥ }
     ensures limits { IfOk result (λ read. HasFileLimits (file_of read.0 read.1.items)) }
     ensures number { IfOk result (λ read. length read.1.items ≡ length circuit.now.inputs) }
+    ensures dim { IfOk result (λ read. read.0.dim ≡ dimension_of circuit.now.params) }
 {
     let (head, inputs) = read_cipher(alloc, &bytes)?;
     let digest = params_digest(alloc, &circuit.params)?;
@@ -128,9 +122,10 @@ fn output_of(
     requires rules { IsCircuit circuit.now }
     requires limits { HasFileLimits (file_of head.now inputs.items) }
     requires number { length inputs.items ≡ length circuit.now.inputs }
+    requires dim { head.now.dim ≡ dimension_of circuit.now.params }
     ensures { IfOk result (λ v. v.items ≡ ciphertext_bytes (output_file circuit.now (file_of head.now inputs.items))) }
 {
-    let values = outputs_of(alloc, circuit, head, &inputs)?;
+    let values = outputs_of(alloc, circuit, &inputs)?;
     drop(inputs);
     let ranges = output_ranges(alloc, circuit.outs.as_slice())?;
     let output = CipherHead {
@@ -180,8 +175,8 @@ fn output_from<S: Store>(
     Ok(output_of(alloc, &circuit, &head, inputs)?)
 }
 
-/// Reads CIRCUIT and CIPHER and writes OUTPUT. No sink is touched, whatever it holds.
-pub fn run<S: Store>(alloc: Global, store: &mut S, names: &RunNames<'_>) -> Status
+/// Reads CIRCUIT and CIPHER and writes OUTPUT.
+fn run_over<S: Store>(alloc: Global, store: &mut S, names: &RunNames<'_>) -> Status
     ensures { (taken : Option Bytes) (put_faults : ℕ) → MayLeave (run_outcome (run_view names.now)) result
         (record { files = S.files store.old; read_faults = S.read_faults store.old; write_faults = S.write_faults store.old; taken = taken; put_faults = put_faults })
         (record { files = S.files store.new; read_faults = S.read_faults store.new; write_faults = S.write_faults store.new; taken = taken; put_faults = put_faults }) }
@@ -190,4 +185,18 @@ pub fn run<S: Store>(alloc: Global, store: &mut S, names: &RunNames<'_>) -> Stat
         Ok(output) => write_file(store, names.output, &output),
         Err(answer) => answer,
     }
+}
+
+/// Evaluates the circuit of CIRCUIT on the ciphertexts of CIPHER, and writes those of its outputs to OUTPUT. No
+/// sink is touched, whatever it holds.
+pub fn run<S: Store>(alloc: Global, store: &mut S, names: &RunNames<'_>) -> Status
+    ensures outcome { (taken : Option Bytes) (put_faults : ℕ) → MayLeave (run_outcome (run_view names.now)) result
+        (record { files = S.files store.old; read_faults = S.read_faults store.old; write_faults = S.write_faults store.old; taken = taken; put_faults = put_faults })
+        (record { files = S.files store.new; read_faults = S.read_faults store.new; write_faults = S.write_faults store.new; taken = taken; put_faults = put_faults }) }
+    ensures headline { (before after : Files) → S.files store.old ≡ Some before → S.files store.new ≡ Some after → Headline (run_request (run_view names.now)) result before after }
+{
+    circuit_text_laws();
+    ciphertext_file_laws();
+    evaluation_laws();
+    run_over(alloc, store, names)
 }

@@ -2,4 +2,4 @@ use Rattle.lwe_core.proofs.DecodingNear.{laws}
 use Rattle.lwe_core.proofs.decoding.decoding_laws.Goals as goal
 
 pub returns : goal.returns
-returns _ = laws
+returns c = laws c.size_laws.ensures

@@ -2,4 +2,4 @@ use Rattle.lwe_core.proofs.PhaseLinear.{laws}
 use Rattle.lwe_core.proofs.phases.phase_laws.Goals as goal
 
 pub returns : goal.returns
-returns _ = laws
+returns c = laws c.row_laws.ensures

@@ -1,5 +1,5 @@
 use Rattle.std.proofs.Common.{sym, ap, ◌∙◌}
-use Rattle.fhec_cmd.specs.CiphertextReading.{ciphertext_file_of}
+use Rattle.cipher_files.specs.CiphertextReading.{ciphertext_file_of}
 use Rattle.fhec_cmd.proofs.RunLemmas.{inputs_found, inputs_refused}
 use Rattle.fhec_cmd.proofs.commands.run.inputs_in.Goals as goal
 

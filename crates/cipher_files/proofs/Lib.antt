@@ -1,0 +1,6 @@
+pub mod ReadingLemmas
+pub mod CiphertextWords
+pub mod CiphertextPieces
+pub mod CiphertextLoop
+pub mod CiphertextTaken
+pub mod CiphertextAgain

@@ -1,0 +1,3 @@
+pub mod CiphertextFile
+pub mod CiphertextReading
+pub mod ParamsDigest

@@ -1,0 +1,179 @@
+ghost use Rattle.std.specs.Prelude.{◌≡◌, ◌+◌, ◌*◌, ◌/◌, ◌<◌, ◌≤◌, ◌^◌, length, take, drop, IfOk};
+ghost use Rattle.std.specs.Simd.{first_chunks};
+ghost use Rattle.cipher_files.specs.CiphertextFile.{IsCiphertextFile, file_of};
+ghost use Rattle.cipher_files.specs.CiphertextReading.{Gives, word_at, number_within, counts_of, is_sealed, range_of, ranges_of, words_of, ciphertexts_of, ciphertext_file_of};
+
+use crate::MAGIC;
+use crate::fault::{FileFault, FileRefusal};
+use crate::head::CipherHead;
+use circuit_file::is_input_range;
+use lists::List;
+use lwe_core::{Big, Lwe};
+use sha2::{Digest, Sha256};
+use std::alloc::{AllocError, Global};
+
+/// The numbers that a file says of itself.
+#[derive(Clone, Copy)]
+struct Counts {
+    dim: u32,
+    width: u32,
+    number: u32,
+}
+
+#[tactic(auto, unfolding(crate::specs::CiphertextReading::word_of))]
+fn word_at(bytes: &[u8], place: usize) -> u64
+    requires { place + 8 ≤ length bytes.now }
+    ensures { result ≡ word_at place bytes.now }
+{
+    let word = &bytes[place..place + 8];
+    u64::from_le_bytes([
+        word[0], word[1], word[2], word[3], word[4], word[5], word[6], word[7],
+    ])
+}
+
+#[tactic(auto, unfolding(crate::specs::CiphertextReading::number_within))]
+fn number_within(least: u64, most: u64, number: u64) -> Result<u32, FileRefusal>
+    requires { most < 2 ^ 32 }
+    ensures read { Gives (λ number. number) result (number_within least most number) }
+    ensures limit { IfOk result (λ number. number ≤ most) }
+{
+    if number < least || most < number {
+        return Err(FileRefusal::Fault(FileFault::Later));
+    }
+    Ok(number as u32)
+}
+
+#[tactic(auto, unfolding(crate::specs::CiphertextReading::counts_of))]
+fn counts_of(bytes: &[u8]) -> Result<Counts, FileRefusal>
+    ensures read { Gives (λ counts. (counts.dim, counts.width, counts.number)) result (counts_of bytes.now) }
+    ensures dim { IfOk result (λ counts. counts.dim ≤ 24576) }
+    ensures number { IfOk result (λ counts. counts.number ≤ 64) }
+    ensures len { IfOk result (λ counts. length bytes.now ≡ 96 + 16 * counts.number + counts.number * (8 * (counts.dim + 1))) }
+{
+    if bytes.len() < 96 || &bytes[..8] != MAGIC.as_slice() {
+        return Err(FileRefusal::Fault(FileFault::Later));
+    }
+    let dim = number_within(1, 24576, word_at(bytes, 40))?;
+    let width = number_within(1, 16, word_at(bytes, 48))?;
+    let number = number_within(0, 64, word_at(bytes, 56))?;
+    let many = number as usize;
+    if bytes.len() != 96 + 16 * many + many * (8 * (dim as usize + 1)) {
+        return Err(FileRefusal::Fault(FileFault::Later));
+    }
+    Ok(Counts { dim, width, number })
+}
+
+#[tactic(auto, unfolding(crate::specs::CiphertextReading::is_sealed))]
+fn is_sealed(bytes: &[u8]) -> bool
+    requires { 32 ≤ length bytes.now }
+    ensures { result ≡ is_sealed bytes.now }
+{
+    let (body, seal) = bytes.split_at(bytes.len() - 32);
+    seal == Sha256::digest(body).as_slice()
+}
+
+#[tactic(auto, unfolding(crate::specs::CiphertextReading::range_of))]
+fn range_of(bytes: &[u8]) -> Result<(i64, i64), FileRefusal>
+    requires { 16 ≤ length bytes.now }
+    ensures { Gives (λ range. range) result (range_of bytes.now) }
+{
+    let low = word_at(bytes, 0).cast_signed();
+    let high = word_at(bytes, 8).cast_signed();
+    if !is_input_range(low, high) {
+        return Err(FileRefusal::Fault(FileFault::Later));
+    }
+    Ok((low, high))
+}
+
+fn digest_of(bytes: &[u8]) -> [u8; 32]
+    requires { 40 ≤ length bytes.now }
+    ensures { result ≡ take 32 (drop 8 bytes.now) }
+{
+    let mut digest = [0; 32];
+    digest.copy_from_slice(&bytes[8..40]);
+    digest
+}
+
+fn ranges_of(alloc: Global, number: usize, bytes: &[u8]) -> Result<Vec<(i64, i64)>, FileRefusal>
+    requires { 16 * number ≤ length bytes.now }
+    ensures { Gives (λ ranges. ranges.items) result (ranges_of (first_chunks 16 number bytes.now)) }
+{
+    let mut ranges = Vec::with_capacity(alloc, number)?;
+    let mut rest = bytes;
+    for _ in 0..number {
+        let (piece, after) = rest.split_at(16);
+        ranges.push(range_of(piece)?)?;
+        rest = after;
+    }
+    Ok(ranges)
+}
+
+#[tactic(auto, unfolding(crate::specs::CiphertextReading::word_of))]
+fn words_of(alloc: Global, bytes: &[u8]) -> Result<Vec<u64>, AllocError>
+    ensures { IfOk result (λ words. words.items ≡ words_of (length bytes.now / 8) bytes.now) }
+{
+    let (pieces, _) = bytes.as_chunks::<8>();
+    let mut words = Vec::with_capacity(alloc, pieces.len())?;
+    for piece in pieces {
+        words.push(u64::from_le_bytes(*piece))?;
+    }
+    Ok(words)
+}
+
+fn ciphertexts_of(
+    alloc: Global,
+    dim: usize,
+    number: usize,
+    bytes: &[u8],
+) -> Result<Vec<Lwe<Big>>, AllocError>
+    requires dim { dim ≤ 24576 }
+    requires len { number * (8 * (dim + 1)) ≤ length bytes.now }
+    ensures { IfOk result (λ list. list.items ≡ ciphertexts_of dim number bytes.now) }
+{
+    let size = 8 * (dim + 1);
+    let mut list = Vec::with_capacity(alloc, number)?;
+    let mut rest = bytes;
+    for _ in 0..number {
+        let (piece, after) = rest.split_at(size);
+        list.push(Lwe::from_words(words_of(alloc, piece)?))?;
+        rest = after;
+    }
+    Ok(list)
+}
+
+#[tactic(auto, unfolding(crate::specs::CiphertextReading::ciphertext_file_of))]
+fn file_in(alloc: Global, bytes: &[u8]) -> Result<(CipherHead, Vec<Lwe<Big>>), FileRefusal>
+    ensures { Gives (λ read. file_of read.0 read.1.items) result (ciphertext_file_of bytes.now) }
+{
+    let counts = counts_of(bytes)?;
+    if !is_sealed(bytes) {
+        return Err(FileRefusal::Fault(FileFault::Later));
+    }
+    let number = counts.number as usize;
+    let ranges = ranges_of(alloc, number, &bytes[64..])?;
+    let list = ciphertexts_of(
+        alloc,
+        counts.dim as usize,
+        number,
+        &bytes[64 + 16 * number..],
+    )?;
+    let head = CipherHead {
+        digest: digest_of(bytes),
+        dim: counts.dim,
+        width: counts.width,
+        ranges: List::from_vec(ranges),
+    };
+    Ok((head, list))
+}
+
+/// The file that the bytes spell, all of the bytes: its head, and its ciphertexts in order.
+///
+/// A fault means that the bytes spell no file. The seal is checked before any memory is taken, and the
+/// ranges before there is any for the words.
+pub fn read_cipher(alloc: Global, bytes: &[u8]) -> Result<(CipherHead, Vec<Lwe<Big>>), FileRefusal>
+    ensures exact { Gives (λ read. file_of read.0 read.1.items) result (ciphertext_file_of bytes.now) }
+    // So it can be printed again.
+    ensures valid { IfOk result (λ read. IsCiphertextFile (file_of read.0 read.1.items)) }
+{
+    file_in(alloc, bytes)
+}

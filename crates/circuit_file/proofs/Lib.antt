@@ -1,0 +1,8 @@
+pub mod ReadingLemmas
+pub mod NumberLemmas
+pub mod NumberTexts
+pub mod Many
+pub mod NodeLines
+pub mod ParameterLines
+pub mod ResultRules
+pub mod CircuitWhole

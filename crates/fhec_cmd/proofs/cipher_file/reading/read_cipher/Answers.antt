@@ -1,6 +1,0 @@
-use Rattle.std.proofs.Common.{arith}
-use Rattle.fhec_cmd.proofs.CiphertextTaken.{is_valid}
-use Rattle.fhec_cmd.proofs.cipher_file.reading.read_cipher.Goals as goal
-
-pub returns-clause-valid : goal.returns-clause-valid
-returns-clause-valid c = is_valid c.args.bytes.now c.file_in.result (λ i. omega (arith, c.type_inv.bytes i)) c.file_in.ensures

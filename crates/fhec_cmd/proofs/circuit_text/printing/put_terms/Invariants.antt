@@ -1,8 +1,0 @@
-use Rattle.std.proofs.Common.{◌≡◌, ◌++◌, take}
-use Rattle.std.specs.String.{string_bytes}
-use Rattle.std.specs.List.{flat_map}
-use Rattle.fhec_cmd.specs.Circuit.{term_text}
-use Rattle.fhec_cmd.proofs.circuit_text.printing.put_terms.Given as goal
-
-abbrev pub invariant-loop-term : goal.invariant-loop-term
-invariant-loop-term l = string_bytes l.text ≡ string_bytes l.initial.text ++ flat_map term_text (take l.term-index l.terms)

@@ -1,0 +1,41 @@
+-- The headline: what `run` writes decrypts to the values of the circuit on whole numbers.
+use Rattle.std.specs.Prelude.{◌≡◌, Bool, true, List, Some, ℤ}
+use Rattle.std.specs.FinMap.{get}
+use Rattle.port_store.specs.Files.{Bytes, Files}
+use Rattle.circuit_file.specs.declared.circuit.Circuit.{Circuit}
+use Rattle.circuit_file.specs.Circuit.{IsCircuit, circuit_text}
+use Rattle.cipher_files.specs.CiphertextFile.{CiphertextFile, ciphertext_bytes}
+use Rattle.cipher_files.specs.CiphertextReading.{ciphertext_file_of}
+use Rattle.circuit_run.specs.Clear.{clear_values}
+use Rattle.circuit_run.specs.Noise.{AreGood, AreRight}
+use Rattle.fhec_cmd.specs.declared.status.Status.{Status}
+use Rattle.fhec_cmd.specs.declared.status.Status.TheVariants as status
+use Rattle.fhec_cmd.specs.CommandLine.{RunWords, Request, run}
+use Rattle.fhec_cmd.specs.Run.{is_input_of, output_file}
+
+-- the bytes of a file spell a file of ciphertexts
+pub record Spells (files : Files) (name : Bytes) (file : CiphertextFile) : Type 0 where
+  pub bytes : Bytes
+  pub held : get files name ≡ Some bytes
+  pub spelled : ciphertext_file_of bytes ≡ Some file
+
+-- a run over these files did what its circuit says, on whatever its inputs stand for
+pub record RunIsRight (words : RunWords) (before after : Files) : Type 0 where
+  -- the circuit, and the file of its inputs
+  pub circuit : Circuit
+  pub inputs : CiphertextFile
+  -- CIRCUIT holds the one text of the circuit, which keeps the rules
+  pub rules : IsCircuit circuit
+  pub text : get before words.circuit ≡ Some (circuit_text circuit)
+  -- CIPHER holds inputs made for it
+  pub cipher : Spells before words.cipher inputs
+  pub fitting : is_input_of circuit inputs ≡ true
+  -- OUTPUT holds the words of evaluation, under the outputs' own ranges
+  pub output : get after words.output ≡ Some (ciphertext_bytes (output_file circuit inputs))
+  -- and for every secret key of the circuit's dimensions, all values in the input ranges, and inputs that stand for them within the error of fresh ciphertexts, each of the output's ciphertexts stands for its value on whole numbers within its bound, and decodes to it over its range's least number
+  pub right : (big small : List Bool) (values : List ℤ) → AreGood circuit big small values inputs.ciphertexts → AreRight circuit big circuit.outs (output_file circuit inputs).ciphertexts (clear_values circuit values)
+
+-- what the answer Ok promises of a command
+abbrev pub Headline : Request → Status → Files → Files → Type 0
+Headline (run words) status.Ok before after = RunIsRight words before after
+Headline request answer before after = Unit {0}
