@@ -1,8 +1,9 @@
 -- What a ciphertext file holds, and the one way to spell it in bytes.
 use Rattle.std.specs.Prelude.{◌≡◌, ℕ, ◌+◌, ◌<◌, ◌≤◌, ◌^◌, ℤ, List, ◌++◌, length, codes}
 use Rattle.std.specs.List.{flat_map, All}
-use Rattle.std.specs.Int.{w64, to_le_bytes, cast_unsigned}
+use Rattle.std.specs.Int.{w64, to_le_bytes}
 use Rattle.sha2.specs.Sha256.{sha256}
+use Rattle.word_ring.specs.Signed.{word_of}
 use Rattle.circuit_file.specs.Ranges.{IsInputRange}
 use Rattle.cipher_files.specs.declared.head.CipherHead.{CipherHead}
 
@@ -22,13 +23,9 @@ magic = codes "FHECCIP1"
 unfoldable pub word_bytes : ℕ → List ℕ
 word_bytes word = to_le_bytes w64 word
 
--- the word that stands for a signed number, modulo 2 ^ 64
-abbrev pub signed_word : ℤ → ℕ
-signed_word number = cast_unsigned w64 number
-
--- a range: its lowest number, and then its highest
+-- a range: its lowest number, and then its highest, each as its word modulo 2^64
 abbrev pub range_bytes : ℤ × ℤ → List ℕ
-range_bytes range = word_bytes (signed_word range.0) ++ word_bytes (signed_word range.1)
+range_bytes range = word_bytes (word_of range.0) ++ word_bytes (word_of range.1)
 
 -- words one after the other
 abbrev pub words_bytes : List ℕ → List ℕ

@@ -1,8 +1,9 @@
 -- Reading a ciphertext file: its checks in their order, and what it holds where none fails.
 use Rattle.std.specs.Prelude.{◌≡◌, ℕ, ◌+◌, ◌-◌, ◌*◌, ℤ, Bool, true, false, ◌&&◌, ◌==◌, nat_le, if◌then◌else◌, List, [], ◌∷◌, length, take, drop, map, Option, Some, None, Result, Ok, Err, bytes_eq}
-use Rattle.std.specs.Int.{w64, from_le_bytes, cast_signed}
+use Rattle.std.specs.Int.{w64, from_le_bytes}
 use Rattle.std.specs.Simd.{first_chunks}
 use Rattle.sha2.specs.Sha256.{sha256}
+use Rattle.word_ring.specs.Words.{centred}
 use Rattle.cipher_files.specs.declared.fault.FileRefusal.{FileRefusal}
 use Rattle.cipher_files.specs.declared.fault.FileRefusal.TheVariants.{Fault, Memory}
 use Rattle.circuit_file.specs.Ranges.{is_input_range}
@@ -25,12 +26,12 @@ Gives view (Ok value) read = read ≡ Some (view value)
 Gives view (Err refusal) read = Refuses refusal read
 
 -- the word that eight bytes spell, the lowest first
-unfoldable pub word_of : List ℕ → ℕ
-word_of bytes = from_le_bytes w64 bytes
+unfoldable pub word_in : List ℕ → ℕ
+word_in bytes = from_le_bytes w64 bytes
 
 -- the word in the eight bytes from a place
 abbrev pub word_at : ℕ → List ℕ → ℕ
-word_at place bytes = word_of (take 8 (drop place bytes))
+word_at place bytes = word_in (take 8 (drop place bytes))
 
 -- the number, where it is within two limits
 unfoldable pub number_within : ℕ → ℕ → ℕ → Option ℕ
@@ -54,8 +55,8 @@ is_sealed bytes = bytes_eq (drop (length bytes - 32) bytes) (sha256 (take (lengt
 -- the range in sixteen bytes
 unfoldable pub range_of : List ℕ → Option (ℤ × ℤ)
 range_of bytes = do
-  let low = cast_signed w64 (word_at 0 bytes)
-  let high = cast_signed w64 (word_at 8 bytes)
+  let low = centred (word_at 0 bytes)
+  let high = centred (word_at 8 bytes)
   _ ← check (is_input_range low high)
   Some (low, high)
 
@@ -69,7 +70,7 @@ ranges_of (piece ∷ pieces) = do
 
 -- so many words from the front
 abbrev pub words_of : ℕ → List ℕ → List ℕ
-words_of count bytes = map word_of (first_chunks 8 count bytes)
+words_of count bytes = map word_in (first_chunks 8 count bytes)
 
 -- so many ciphertexts from the front, each of its mask's words and a body
 abbrev pub ciphertexts_of : ℕ → ℕ → List ℕ → List (List ℕ)

@@ -3,6 +3,8 @@ ghost use Rattle.std.specs.List.{All};
 ghost use Rattle.cipher_files.specs.CiphertextFile.{CiphertextFile, IsCiphertextFile, ciphertext_bytes};
 ghost use Rattle.cipher_files.specs.CiphertextReading.{ciphertext_file_of};
 
+use word_ring::signed_laws;
+
 /// Reading and spelling a file are inverse to each other: so each file has one spelling, and no bytes
 /// spell two files.
 pub fn ciphertext_file_laws()
@@ -14,4 +16,6 @@ pub fn ciphertext_file_laws()
         → All (λ words. length words ≡ file.dim + 1) file.ciphertexts }
     // What is spelled so is read.
     ensures spelled { (file : CiphertextFile) → IsCiphertextFile file → ciphertext_file_of (ciphertext_bytes file) ≡ Some file }
-{}
+{
+    signed_laws();
+}

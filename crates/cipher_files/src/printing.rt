@@ -7,6 +7,7 @@ use crate::head::CipherHead;
 use lwe_core::{Big, Lwe};
 use sha2::{Digest, Sha256};
 use std::alloc::{AllocError, Global};
+use word_ring::word_of;
 
 #[tactic(auto, unfolding(crate::specs::CiphertextFile::word_bytes))]
 fn put_word(out: &mut Vec<u8>, word: u64) -> Result<(), AllocError>
@@ -45,8 +46,8 @@ fn put_ciphertexts(out: &mut Vec<u8>, list: &[Lwe<Big>]) -> Result<(), AllocErro
 fn put_range(out: &mut Vec<u8>, range: &(i64, i64)) -> Result<(), AllocError>
     ensures { OnOk result (out.new.items ≡ out.old.items ++ range_bytes range.now) }
 {
-    put_word(out, range.0.cast_unsigned())?;
-    put_word(out, range.1.cast_unsigned())
+    put_word(out, word_of(range.0))?;
+    put_word(out, word_of(range.1))
 }
 
 fn put_ranges(out: &mut Vec<u8>, ranges: &[(i64, i64)]) -> Result<(), AllocError>

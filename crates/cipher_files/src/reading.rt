@@ -11,6 +11,7 @@ use lists::List;
 use lwe_core::{Big, Lwe};
 use sha2::{Digest, Sha256};
 use std::alloc::{AllocError, Global};
+use word_ring::{centred, signed_laws};
 
 /// The numbers that a file says of itself.
 #[derive(Clone, Copy)]
@@ -20,7 +21,7 @@ struct Counts {
     number: u32,
 }
 
-#[tactic(auto, unfolding(crate::specs::CiphertextReading::word_of))]
+#[tactic(auto, unfolding(crate::specs::CiphertextReading::word_in))]
 fn word_at(bytes: &[u8], place: usize) -> u64
     requires { place + 8 ≤ length bytes.now }
     ensures { result ≡ word_at place bytes.now }
@@ -77,8 +78,8 @@ fn range_of(bytes: &[u8]) -> Result<(i64, i64), FileRefusal>
     requires { 16 ≤ length bytes.now }
     ensures { Gives (λ range. range) result (range_of bytes.now) }
 {
-    let low = word_at(bytes, 0).cast_signed();
-    let high = word_at(bytes, 8).cast_signed();
+    let low = centred(word_at(bytes, 0));
+    let high = centred(word_at(bytes, 8));
     if !is_input_range(low, high) {
         return Err(FileRefusal::Fault(FileFault::Later));
     }
@@ -108,7 +109,7 @@ fn ranges_of(alloc: Global, number: usize, bytes: &[u8]) -> Result<Vec<(i64, i64
     Ok(ranges)
 }
 
-#[tactic(auto, unfolding(crate::specs::CiphertextReading::word_of))]
+#[tactic(auto, unfolding(crate::specs::CiphertextReading::word_in))]
 fn words_of(alloc: Global, bytes: &[u8]) -> Result<Vec<u64>, AllocError>
     ensures { IfOk result (λ words. words.items ≡ words_of (length bytes.now / 8) bytes.now) }
 {
@@ -175,5 +176,6 @@ pub fn read_cipher(alloc: Global, bytes: &[u8]) -> Result<(CipherHead, Vec<Lwe<B
     // So it can be printed again.
     ensures valid { IfOk result (λ read. IsCiphertextFile (file_of read.0 read.1.items)) }
 {
+    signed_laws();
     file_in(alloc, bytes)
 }

@@ -5,9 +5,10 @@ ghost use Rattle.std.specs.Prelude.{IfOk};
 ghost use Rattle.circuit_file.specs.Circuit.{IsCircuit};
 ghost use Rattle.circuit_file.specs.CircuitReading.{circuit_of};
 ghost use Rattle.circuit_file.specs.CircuitLaws.{ReadIsSpelled, SpelledIsRead};
-ghost use Rattle.circuit_file.specs.Refusal.{Gives};
+ghost use Rattle.circuit_file.specs.Refusal.{Gives, IsReadingOf};
 
 mod circuit;
+mod fault;
 mod lines;
 mod params;
 mod printing;
@@ -19,29 +20,38 @@ mod results;
 pub use circuit::{
     Circuit, Gadget, GlweChoice, LweChoice, Out, Params, Range, Term, WeightedSum, dimension,
 };
+pub use fault::{CircuitFault, CircuitKind, CircuitRefusal};
 use lines::{inputs_at, outs_at, sums_at};
 use lists::List;
 use params::head_at;
 pub use printing::{print_circuit, print_params};
 pub use ranges::is_input_range;
 use reading::words_at;
-pub use refusal::CircuitRefusal;
+use refusal::TextRefusal;
 use results::are_results_right;
 use std::alloc::Global;
 
-/// The circuit that the whole text spells: `Fault` where it spells none.
-#[tactic(auto, unfolding(crate::specs::CircuitReading::circuit_of))]
+/// The circuit that the whole text spells, and its ranges, width and bounds computed afresh. A fault means that it
+/// spells none.
 pub fn read_circuit(alloc: Global, bytes: &[u8]) -> Result<Circuit, CircuitRefusal>
     // What reading the text gives, unless memory runs out.
-    ensures exact { Gives (λ c. c) result (circuit_of bytes.now) }
+    ensures exact { IsReadingOf (circuit_of bytes.now) result }
     // What is read keeps the rules of circuits.
     ensures rules { IfOk result IsCircuit }
 {
-    let (width, params, rest) = head_at(bytes).ok_or(CircuitRefusal::Fault)?;
+    Ok(circuit_in(alloc, bytes)?)
+}
+
+#[tactic(auto, unfolding(crate::specs::CircuitReading::circuit_of))]
+fn circuit_in(alloc: Global, bytes: &[u8]) -> Result<Circuit, TextRefusal>
+    ensures exact { Gives (λ c. c) result (circuit_of bytes.now) }
+    ensures rules { IfOk result IsCircuit }
+{
+    let (width, params, rest) = head_at(bytes).ok_or(TextRefusal::Fault)?;
     let (inputs, rest) = inputs_at(alloc, rest)?;
     let (sums, rest) = sums_at(alloc, rest, inputs.len() as u64)?;
     let (outs, rest) = outs_at(alloc, rest)?;
-    let rest = words_at(rest, b"end\n").ok_or(CircuitRefusal::Fault)?;
+    let rest = words_at(rest, b"end\n").ok_or(TextRefusal::Fault)?;
     let circuit = Circuit {
         params,
         width,
@@ -52,7 +62,7 @@ pub fn read_circuit(alloc: Global, bytes: &[u8]) -> Result<Circuit, CircuitRefus
     if rest.is_empty() && are_results_right(&circuit) {
         Ok(circuit)
     } else {
-        Err(CircuitRefusal::Fault)
+        Err(TextRefusal::Fault)
     }
 }
 

@@ -4,7 +4,7 @@ ghost use Rattle.std.specs.Prelude.{◌≡◌, ◌≤◌, length, option_map, If
 ghost use Rattle.circuit_file.specs.CircuitReading.{range_at as range_of, is_term as term_test, input_line_at as input_of, inputs_at as inputs_of, term_at as term_of, terms_at as terms_of, sum_line_at as sum_of, sums_at as sums_of, out_line_at as out_of, outs_at as outs_of};
 ghost use Rattle.circuit_file.specs.Refusal.{Gives};
 
-use super::refusal::CircuitRefusal;
+use super::refusal::TextRefusal;
 use crate::circuit::{Out, Range, Term, WeightedSum};
 use crate::ranges::is_input_range;
 use crate::reading::{integer_field, natural_field, words_at};
@@ -50,7 +50,7 @@ fn input_line_at(bytes: &[u8], node: u64) -> Option<(Range, &[u8])>
 }
 
 /// The lines of the inputs.
-pub fn inputs_at(alloc: Global, bytes: &[u8]) -> Result<(Vec<Range>, &[u8]), CircuitRefusal>
+pub fn inputs_at(alloc: Global, bytes: &[u8]) -> Result<(Vec<Range>, &[u8]), TextRefusal>
     ensures { Gives (λ x. (x.0.items, x.1.now)) result (inputs_of bytes.now) }
 {
     let mut inputs = Vec::new(alloc);
@@ -91,7 +91,7 @@ fn term_at(bytes: &[u8], inputs: u64, low: u64) -> Option<(Term, &[u8])>
 }
 
 /// The terms of a sum over so many inputs.
-fn terms_at(alloc: Global, bytes: &[u8], inputs: u64) -> Result<(Vec<Term>, &[u8]), CircuitRefusal>
+fn terms_at(alloc: Global, bytes: &[u8], inputs: u64) -> Result<(Vec<Term>, &[u8]), TextRefusal>
     ensures { Gives (λ x. (x.0.items, x.1.now)) result (terms_of inputs bytes.now) }
 {
     let mut terms = Vec::new(alloc);
@@ -115,15 +115,15 @@ fn sum_line_at(
     bytes: &[u8],
     inputs: u64,
     node: u64,
-) -> Result<(WeightedSum, &[u8]), CircuitRefusal>
+) -> Result<(WeightedSum, &[u8]), TextRefusal>
     ensures { Gives (λ x. (x.0, x.1.now)) result (sum_of inputs node bytes.now) }
 {
-    let (_, rest) = natural_field(bytes, b"%", node, node).ok_or(CircuitRefusal::Fault)?;
-    let (constant, rest) = integer_field(rest, b" = lin ").ok_or(CircuitRefusal::Fault)?;
+    let (_, rest) = natural_field(bytes, b"%", node, node).ok_or(TextRefusal::Fault)?;
+    let (constant, rest) = integer_field(rest, b" = lin ").ok_or(TextRefusal::Fault)?;
     let (terms, rest) = terms_at(alloc, rest, inputs)?;
-    let rest = words_at(rest, b"\n").ok_or(CircuitRefusal::Fault)?;
+    let rest = words_at(rest, b"\n").ok_or(TextRefusal::Fault)?;
     if constant.unsigned_abs() > 1 << 41 {
-        return Err(CircuitRefusal::Fault);
+        return Err(TextRefusal::Fault);
     }
     let sum = WeightedSum {
         constant,
@@ -137,7 +137,7 @@ pub fn sums_at(
     alloc: Global,
     bytes: &[u8],
     inputs: u64,
-) -> Result<(Vec<WeightedSum>, &[u8]), CircuitRefusal>
+) -> Result<(Vec<WeightedSum>, &[u8]), TextRefusal>
     requires { inputs ≤ 64 }
     ensures { Gives (λ x. (x.0.items, x.1.now)) result (sums_of inputs bytes.now) }
 {
@@ -149,8 +149,8 @@ pub fn sums_at(
                 sums.push(sum)?;
                 rest = after;
             }
-            Err(CircuitRefusal::Fault) => break,
-            Err(CircuitRefusal::Memory) => return Err(CircuitRefusal::Memory),
+            Err(TextRefusal::Fault) => break,
+            Err(TextRefusal::Memory) => return Err(TextRefusal::Memory),
         }
     }
     Ok((sums, rest))
@@ -171,7 +171,7 @@ fn out_line_at(bytes: &[u8]) -> Option<(Out, &[u8])>
 }
 
 /// The lines of the outputs.
-pub fn outs_at(alloc: Global, bytes: &[u8]) -> Result<(Vec<Out>, &[u8]), CircuitRefusal>
+pub fn outs_at(alloc: Global, bytes: &[u8]) -> Result<(Vec<Out>, &[u8]), TextRefusal>
     ensures { Gives (λ x. (x.0.items, x.1.now)) result (outs_of bytes.now) }
 {
     let mut outs = Vec::new(alloc);

@@ -94,7 +94,10 @@ fn faults(rt: HostRuntime) -> Result<(), Fail> {
         let text = text_of(rt.alloc(), width, lines)?;
         let circuit = read_circuit(rt.alloc(), text.as_bytes());
         assert!(rt;
-            matches!(circuit, Err(CircuitRefusal::Fault)),
+            matches!(
+                circuit,
+                Err(CircuitRefusal::Fault(CircuitFault { line: 1, .. }))
+            ),
             "{width} {lines}"
         );
     }

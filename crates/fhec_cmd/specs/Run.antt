@@ -7,6 +7,9 @@ use Rattle.circuit_file.specs.declared.circuit.Range.{Range}
 use Rattle.circuit_file.specs.declared.circuit.Circuit.{Circuit}
 use Rattle.circuit_file.specs.Circuit.{dimension}
 use Rattle.circuit_file.specs.CircuitReading.{circuit_of}
+use Rattle.circuit_file.specs.Refusal.{text_fault}
+use Rattle.circuit_file.specs.declared.fault.CircuitRefusal.{CircuitRefusal}
+use Rattle.circuit_file.specs.declared.fault.CircuitRefusal.TheVariants as circuit
 use Rattle.cipher_files.specs.declared.fault.FileFault.TheVariants as file_fault
 use Rattle.cipher_files.specs.declared.fault.FileRefusal.{FileRefusal}
 use Rattle.cipher_files.specs.declared.fault.FileRefusal.TheVariants as refusal
@@ -16,7 +19,6 @@ use Rattle.cipher_files.specs.ParamsDigest.{params_digest}
 use Rattle.circuit_run.specs.Evaluation.{output_rows}
 use Rattle.fhec_cmd.specs.declared.status.Status.{Status}
 use Rattle.fhec_cmd.specs.declared.status.Status.TheVariants as status
-use Rattle.fhec_cmd.specs.declared.status.CircuitKind.TheVariants as circuit_kind
 use Rattle.fhec_cmd.specs.declared.status.FileKind.TheVariants as file_kind
 use Rattle.fhec_cmd.specs.CommandLine.{RunWords, is_no_eval}
 use Rattle.fhec_cmd.specs.Outcome.{Outcome, finished, outcome_from, ◌>>=◌, unless, found, reading}
@@ -46,7 +48,12 @@ output_file c file = record { digest = file.digest; dim = file.dim; width = file
 
 -- the circuit in a text, or the refusal
 abbrev pub circuit_in : Bytes → Result Circuit Status
-circuit_in text = found (status.Circuit (record { line = 1; kind = circuit_kind.Later })) (circuit_of text)
+circuit_in text = found (status.Circuit text_fault) (circuit_of text)
+
+-- what a refusal of the reader of circuits is answered with
+abbrev pub circuit_refusal : CircuitRefusal → Status
+circuit_refusal (circuit.Fault fault) = status.Circuit fault
+circuit_refusal circuit.Memory = status.Memory
 
 -- what a refusal of the reader of ciphertext files is answered with
 abbrev pub cipher_refusal : FileRefusal → Status

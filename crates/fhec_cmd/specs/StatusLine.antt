@@ -3,8 +3,8 @@ use Rattle.std.specs.Prelude.{ℕ, List, [], ◌++◌, codes}
 use Rattle.std.specs.Fmt.{decimal}
 use Rattle.fhec_cmd.specs.declared.status.Status.{Status}
 use Rattle.fhec_cmd.specs.declared.status.Status.TheVariants as status
-use Rattle.fhec_cmd.specs.declared.status.CircuitKind.{CircuitKind}
-use Rattle.fhec_cmd.specs.declared.status.CircuitKind.TheVariants as circuit_kind
+use Rattle.circuit_file.specs.declared.fault.CircuitKind.{CircuitKind}
+use Rattle.circuit_file.specs.declared.fault.CircuitKind.TheVariants as circuit_kind
 use Rattle.fhec_cmd.specs.declared.status.FileKind.{FileKind}
 use Rattle.fhec_cmd.specs.declared.status.FileKind.TheVariants as file_kind
 use Rattle.fhec_cmd.specs.declared.status.LimitName.{LimitName}

@@ -15,8 +15,9 @@ mod status_line;
 mod words;
 
 pub use cipher_files::FileFault;
+pub use circuit_file::{CircuitFault, CircuitKind};
 use port_store::{Sink, Store};
-pub use status::{CircuitFault, CircuitKind, FileKind, LimitFault, LimitName, Status};
+pub use status::{FileKind, LimitFault, LimitName, Status};
 use std::alloc::Global;
 use words::CommandLine;
 

@@ -2,9 +2,10 @@
 
 ghost use Rattle.std.specs.Prelude.{◌≡◌};
 ghost use Rattle.fhec_cmd.specs.declared.status.Status.TheVariants.{Memory};
-ghost use Rattle.fhec_cmd.specs.Run.{cipher_refusal};
+ghost use Rattle.fhec_cmd.specs.Run.{circuit_refusal, cipher_refusal};
 
 use cipher_files::{FileFault, FileRefusal};
+use circuit_file::{CircuitFault, CircuitRefusal};
 use std::alloc::{AllocError, AllocFailed};
 
 /// What a command answers.
@@ -26,20 +27,6 @@ pub enum Status {
     Write,
     /// Memory ran out.
     Memory,
-}
-
-/// Where and why a circuit text is refused.
-#[derive(Clone, Copy, Debug, PartialEq, Eq)]
-pub struct CircuitFault {
-    pub line: u32,
-    pub kind: CircuitKind,
-}
-
-/// Why a circuit text is refused.
-#[derive(Clone, Copy, Debug, PartialEq, Eq)]
-pub enum CircuitKind {
-    /// Provisional: the text is not one that is read so far. Which rule it breaks is not said yet.
-    Later,
 }
 
 /// Which file is refused.
@@ -76,6 +63,17 @@ impl<T: Drop> From<AllocFailed<T>> for Status {
 
     fn from(_error: AllocFailed<T>) -> Status {
         Status::Memory
+    }
+}
+
+impl From<CircuitRefusal> for Status {
+    ghost from_gives = { λ refusal answer. answer ≡ circuit_refusal refusal };
+
+    fn from(refusal: CircuitRefusal) -> Status {
+        match refusal {
+            CircuitRefusal::Fault(fault) => Status::Circuit(fault),
+            CircuitRefusal::Memory => Status::Memory,
+        }
     }
 }
 

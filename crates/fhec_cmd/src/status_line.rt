@@ -4,8 +4,9 @@ ghost use Rattle.std.specs.Prelude.{◌≡◌, IfOk};
 ghost use Rattle.std.specs.String.{string_bytes};
 ghost use Rattle.fhec_cmd.specs.StatusLine.{code_of, line_of, circuit_kind_word, file_kind_word, file_fault_word, limit_word};
 
-use crate::status::{CircuitKind, FileKind, LimitName, Status};
+use crate::status::{FileKind, LimitName, Status};
 use cipher_files::FileFault;
+use circuit_file::CircuitKind;
 use std::alloc::{AllocError, Global};
 
 impl Status {
@@ -34,7 +35,7 @@ impl Status {
             Status::Ok => String::from_str(alloc, ""),
             Status::Usage => String::from_str(alloc, "fhec: usage"),
             Status::Circuit(fault) => {
-                let (line, kind) = (fault.line, fault.kind.word());
+                let (line, kind) = (fault.line, kind_word(fault.kind));
                 format!(in alloc; "fhec: circuit {line} {kind}")
             }
             Status::File(kind, fault) => {
@@ -52,13 +53,11 @@ impl Status {
     }
 }
 
-impl CircuitKind {
-    fn word(&self) -> &'static str
-        ensures { result.now ≡ circuit_kind_word self.now }
-    {
-        match self {
-            CircuitKind::Later => "later",
-        }
+fn kind_word(kind: CircuitKind) -> &'static str
+    ensures { result.now ≡ circuit_kind_word kind }
+{
+    match kind {
+        CircuitKind::Later => "later",
     }
 }
 

@@ -1,4 +1,3 @@
-pub mod RowLoops
 pub mod PhaseParts
 pub mod DecodingParts
 pub mod PhaseLinear

@@ -11,7 +11,6 @@ mod kind;
 mod lwe;
 mod noise;
 mod phases;
-mod rows;
 #[cfg(test)]
 mod tests;
 

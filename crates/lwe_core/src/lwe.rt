@@ -4,10 +4,9 @@ ghost use Rattle.std.specs.Prelude.{◌≡◌, ◌<◌, ◌≤◌, ◌+◌, ◌�
 ghost use Rattle.word_ring.specs.Words.{IsWord};
 
 use crate::kind::Kind;
-use crate::rows;
 use std::alloc::{AllocError, Global};
 use std::marker::{Model, PhantomData};
-use word_ring::Lin;
+use word_ring::{Lin, rows};
 
 /// An LWE ciphertext of a kind: the words of the mask, and then the body. A clause sees it as that
 /// list, which has at least the body.

@@ -82,29 +82,62 @@ fn words_are_set_one_by_one(rt: HostRuntime) -> Result<(), Fail> {
 }
 
 #[test]
-fn phases_are_linear(rt: HostRuntime) -> Result<(), Fail> {
+fn keys_have_bits(rt: HostRuntime) -> Result<(), Fail> {
     let key = LweKey::<Big>::from_bits(vec![in rt.alloc(); true, false]?);
     assert_eq!(rt; (key.len(), key.ones()), (2, 1));
     assert!(rt; key.bit(0) && !key.bit(1));
+    Ok(())
+}
 
-    let mut total = ciphertext(rt.alloc(), 5, 7, 2305843009213693960)?;
-    let term = ciphertext(rt.alloc(), MINUS_ONE, 0, 4611686018427387901)?;
-    assert_eq!(rt; phase(&key, &total), 2305843009213693955);
-    assert_eq!(rt; phase(&key, &term), 4611686018427387902);
-    total.add_assign(&term);
-    assert_eq!(rt; phase(&key, &total), 6917529027641081857);
-    assert_eq!(rt; decode(phase(&key, &total), 2, 0), 3);
-    total.sub_assign(&term);
-    total.sub_assign(&term);
-    assert_eq!(rt; phase(&key, &total), 16140901064495857669);
-    total.add_assign(&term);
-    total.scale_assign(3);
-    assert_eq!(rt; phase(&key, &total), 6917529027641081865);
+#[test]
+fn phases_are_linear(rt: HostRuntime) -> Result<(), Fail> {
+    let key = LweKey::<Big>::from_bits(vec![in rt.alloc(); true, false]?);
+    // two ciphertexts, their phases, and those of their sum, their difference and three times the first
+    for (a, b, phases) in [
+        (
+            [5, 7, 2305843009213693960],
+            [MINUS_ONE, 0, 4611686018427387901],
+            [
+                2305843009213693955,
+                4611686018427387902,
+                6917529027641081857,
+                16140901064495857669,
+                6917529027641081865,
+            ],
+        ),
+        (
+            [1, 2, 3],
+            [9223372036854775808, 9, 9223372036854775808],
+            [2, 0, 2, 2, 6],
+        ),
+        (
+            [0, MINUS_ONE, 0],
+            [1, 1, 0],
+            [0, MINUS_ONE, MINUS_ONE, 1, 0],
+        ),
+    ] {
+        let mut total = ciphertext(rt.alloc(), a[0], a[1], a[2])?;
+        let term = ciphertext(rt.alloc(), b[0], b[1], b[2])?;
+        assert_eq!(rt;
+            (phase(&key, &total), phase(&key, &term)),
+            (phases[0], phases[1])
+        );
+        total.add_assign(&term);
+        assert_eq!(rt; phase(&key, &total), phases[2]);
+        total.sub_assign(&term);
+        total.sub_assign(&term);
+        assert_eq!(rt; phase(&key, &total), phases[3]);
+        total.add_assign(&term);
+        total.scale_assign(3);
+        assert_eq!(rt; phase(&key, &total), phases[4]);
+    }
     Ok(())
 }
 
 #[test]
 fn decodes_to_the_nearest(rt: HostRuntime) -> Result<(), Fail> {
+    // 3 with the error 1
+    assert_eq!(rt; decode(6917529027641081857, 2, 0), 3);
     // half a step below 1, and above it
     assert_eq!(rt;
         (

@@ -1,4 +1,3 @@
-pub mod RowLoops
 pub mod Sums
 pub mod Signs
 pub mod Coefficients

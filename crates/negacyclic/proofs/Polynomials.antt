@@ -7,8 +7,7 @@ use Rattle.std.proofs.lemmas.List.{length-replicate, get_or-replicate, ext_get_o
 use Rattle.std.proofs.lemmas.List.FromFn.{length-map-range_with_len, get_or-map-range_with_len}
 use Rattle.std.proofs.lemmas.Bool.{eq-eqb, ne_eqb, cond-true, cond-false, cases_eq}
 use Rattle.word_ring.specs.Words.{IsWord, word_sum, word_difference, word_product}
-use Rattle.word_ring.specs.Rows.{row_sum, row_difference, scaled_row}
-use Rattle.word_ring.proofs.RowLaws.{length-zip_words, get_or-zip_words}
+use Rattle.word_ring.specs.Rows.{row_sum, row_difference, scaled_row, RowLaws}
 use Rattle.negacyclic.specs.Product.{sum_below, pair_sum, negacyclic_product, monomial_coefficient}
 use Rattle.negacyclic.proofs.Sums.{sum-zero, sum-same, sum-add, sum-scaled}
 use Rattle.negacyclic.proofs.Signs.{minus_one, sign-here, sign-turned, sign-none}
@@ -119,31 +118,31 @@ product_associative p q r e f =
     ∙ product-assoc n (at p) (at q) (at r) c (omega arith) inside
     ∙ sym (product-congruent n (at p) (at p) (at qr) (product_at n (at q) (at r)) c (λ k l. refl) (λ k l. product_residue n q r k f refl l)))
 
-pub sum_product : (p q r : List ℕ) → length p ≡ length q → length q ≡ length r → negacyclic_product (row_sum p q) r ≡ row_sum (negacyclic_product p r) (negacyclic_product q r)
-sum_product p q r e f =
+pub sum_product : RowLaws → (p q r : List ℕ) → length p ≡ length q → length q ≡ length r → negacyclic_product (row_sum p q) r ≡ row_sum (negacyclic_product p r) (negacyclic_product q r)
+sum_product rows p q r e f =
     let n : ℕ = length r in
     let pr = negacyclic_product p r in
     let qr = negacyclic_product q r in
     let pr_long : length pr ≡ n = product_length p r ∙ e ∙ f in
     let qr_long : length qr ≡ n = product_length q r ∙ f in
-    let long : length (row_sum p q) ≡ n = length-zip_words word_sum p q ∙ omega arith in
+    let long : length (row_sum p q) ≡ n = rows.zip_length word_sum p q ∙ omega arith in
     sym
-    (is_product n (row_sum pr qr) (row_sum p q) r (length-zip_words word_sum pr qr ∙ omega arith) long refl
+    (is_product n (row_sum pr qr) (row_sum p q) r (rows.zip_length word_sum pr qr ∙ omega arith) long refl
     (λ c inside.
     let x : ℕ = product_at n (at p) (at r) c in
     let y : ℕ = product_at n (at q) (at r) c in
-    get_or-zip_words word_sum pr qr c 0 (omega arith) (omega arith)
+    rows.zip_word word_sum pr qr c (omega arith) (omega arith)
     ∙ ap (λ t. word_sum t (get_or qr c 0)) (product_coefficient n p r c (e ∙ f) refl inside)
     ∙ ap (λ t. word_sum (x % 2 ^ 64) t) (product_coefficient n q r c f refl inside)
     ∙ let join : word_sum (x % 2 ^ 64) (y % 2 ^ 64) ≡ (x + y) % 2 ^ 64 = omega arith in join
     ∙ ap (λ t. t % 2 ^ 64) (sym (product-add n (at p) (at q) (at r) c))
     ∙ product-congruent n (λ i. at p i + at q i) (at (row_sum p q)) (at r) (at r) c
-    (λ k l. sym (ap (λ t. t % 2 ^ 64) (get_or-zip_words word_sum p q k 0 (omega arith) (omega arith)) ∙ mod-mod (at p k + at q k) (2 ^ 64))) (λ k l. refl)))
+    (λ k l. sym (ap (λ t. t % 2 ^ 64) (rows.zip_word word_sum p q k (omega arith) (omega arith)) ∙ mod-mod (at p k + at q k) (2 ^ 64))) (λ k l. refl)))
 
-pub product_sum : (p q r : List ℕ) → length p ≡ length q → length q ≡ length r → negacyclic_product p (row_sum q r) ≡ row_sum (negacyclic_product p q) (negacyclic_product p r)
-product_sum p q r e f =
-    product_commutative p (row_sum q r) (sym (length-zip_words word_sum q r ∙ omega arith))
-    ∙ sum_product q r p f (sym (e ∙ f))
+pub product_sum : RowLaws → (p q r : List ℕ) → length p ≡ length q → length q ≡ length r → negacyclic_product p (row_sum q r) ≡ row_sum (negacyclic_product p q) (negacyclic_product p r)
+product_sum rows p q r e f =
+    product_commutative p (row_sum q r) (sym (rows.zip_length word_sum q r ∙ omega arith))
+    ∙ sum_product rows q r p f (sym (e ∙ f))
     ∙ ap (λ t. row_sum t (negacyclic_product r p)) (product_commutative q p (sym e))
     ∙ ap (λ t. row_sum (negacyclic_product p q) t) (product_commutative r p (sym (e ∙ f)))
 
@@ -173,31 +172,31 @@ product_scaled k p q e =
     ∙ ap (scaled_row k) (product_commutative q p (sym e))
 
 -- a difference is the sum with a multiple by -1
-row_difference-is : (p q : List ℕ) → length p ≡ length q → row_difference p q ≡ row_sum p (scaled_row minus_one q)
-row_difference-is p q e =
+row_difference-is : RowLaws → (p q : List ℕ) → length p ≡ length q → row_difference p q ≡ row_sum p (scaled_row minus_one q)
+row_difference-is rows p q e =
     let turned = scaled_row minus_one q in
     let long : length turned ≡ length q = length-map q (λ x. word_product minus_one x) in
     ext_get_or 0 (row_difference p q) (row_sum p turned)
-    (length-zip_words word_difference p q ∙ sym (length-zip_words word_sum p turned ∙ omega arith) ∙ omega arith)
+    (rows.zip_length word_difference p q ∙ sym (rows.zip_length word_sum p turned ∙ omega arith) ∙ omega arith)
     (λ c h.
-    let inside : c < length p = omega (arith, length-zip_words word_difference p q) in
-    get_or-zip_words word_difference p q c 0 inside (omega arith)
+    let inside : c < length p = omega (arith, rows.zip_length word_difference p q) in
+    rows.zip_word word_difference p q c inside (omega arith)
     ∙ let same : word_difference (get_or p c 0) (get_or q c 0) ≡ word_sum (get_or p c 0) ((minus_one * get_or q c 0) % 2 ^ 64) = omega arith in same
     ∙ ap (λ t. word_sum (get_or p c 0) t) (sym (get_or-scaled_row minus_one q c (omega arith)))
-    ∙ sym (get_or-zip_words word_sum p turned c 0 inside (omega arith)))
+    ∙ sym (rows.zip_word word_sum p turned c inside (omega arith)))
 
-pub difference_product : (p q r : List ℕ) → length p ≡ length q → length q ≡ length r → negacyclic_product (row_difference p q) r ≡ row_difference (negacyclic_product p r) (negacyclic_product q r)
-difference_product p q r e f =
+pub difference_product : RowLaws → (p q r : List ℕ) → length p ≡ length q → length q ≡ length r → negacyclic_product (row_difference p q) r ≡ row_difference (negacyclic_product p r) (negacyclic_product q r)
+difference_product rows p q r e f =
     let turned = scaled_row minus_one q in
     let long : length turned ≡ length q = length-map q (λ x. word_product minus_one x) in
-    ap (λ t. negacyclic_product t r) (row_difference-is p q e)
-    ∙ sum_product p turned r (e ∙ sym long) (long ∙ f)
+    ap (λ t. negacyclic_product t r) (row_difference-is rows p q e)
+    ∙ sum_product rows p turned r (e ∙ sym long) (long ∙ f)
     ∙ ap (λ t. row_sum (negacyclic_product p r) t) (scaled_product minus_one q r f)
-    ∙ sym (row_difference-is (negacyclic_product p r) (negacyclic_product q r) (product_length p r ∙ e ∙ sym (product_length q r)))
+    ∙ sym (row_difference-is rows (negacyclic_product p r) (negacyclic_product q r) (product_length p r ∙ e ∙ sym (product_length q r)))
 
-pub product_difference : (p q r : List ℕ) → length p ≡ length q → length q ≡ length r → negacyclic_product p (row_difference q r) ≡ row_difference (negacyclic_product p q) (negacyclic_product p r)
-product_difference p q r e f =
-    product_commutative p (row_difference q r) (sym (length-zip_words word_difference q r ∙ omega arith))
-    ∙ difference_product q r p f (sym (e ∙ f))
+pub product_difference : RowLaws → (p q r : List ℕ) → length p ≡ length q → length q ≡ length r → negacyclic_product p (row_difference q r) ≡ row_difference (negacyclic_product p q) (negacyclic_product p r)
+product_difference rows p q r e f =
+    product_commutative p (row_difference q r) (sym (rows.zip_length word_difference q r ∙ omega arith))
+    ∙ difference_product rows q r p f (sym (e ∙ f))
     ∙ ap (λ t. row_difference t (negacyclic_product r p)) (product_commutative q p (sym e))
     ∙ ap (λ t. row_difference (negacyclic_product p q) t) (product_commutative r p (sym (e ∙ f)))

@@ -2,13 +2,15 @@
 
 ghost use Rattle.negacyclic.specs.Laws.{ProductLaws, RotationLaws, ProductSizeLaws};
 
-use word_ring::size_laws;
+use word_ring::{row_laws, size_laws};
 
 /// Polynomials are a commutative ring.
 #[inline]
 pub fn product_laws()
     ensures { ProductLaws }
-{}
+{
+    row_laws();
+}
 
 /// A rotation moves coefficients and turns signs.
 #[inline]

@@ -8,7 +8,6 @@
 mod laws;
 mod poly;
 mod product;
-mod rows;
 #[cfg(test)]
 mod tests;
 

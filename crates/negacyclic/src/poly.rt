@@ -5,10 +5,10 @@ ghost use Rattle.word_ring.specs.Words.{IsWord};
 ghost use Rattle.word_ring.specs.Rows.{row_sum};
 ghost use Rattle.negacyclic.specs.Product.{negacyclic_product, rotation};
 
-use crate::{product, rows};
+use crate::product;
 use std::alloc::{AllocError, Global};
 use std::marker::Model;
-use word_ring::Lin;
+use word_ring::{Lin, rows};
 
 /// A polynomial of N = 2^log_n words modulo X^N + 1, with log_n from 1 to 13. A clause sees it as the
 /// list of its coefficients, the constant one first.

@@ -4,7 +4,7 @@ ghost use Rattle.std.specs.Prelude.{◌≡◌, ◌<◌, ◌*◌, length};
 ghost use Rattle.word_ring.specs.Rows.{row_sum, sum_with_scaled};
 ghost use Rattle.negacyclic.specs.Product.{negacyclic_product, rotation};
 
-use crate::rows;
+use word_ring::{row_laws, rows};
 
 /// Adds the product of `a` and `b`: the sum over i of `a[i]` times X^i times `b`.
 pub fn add_product(into: &mut [u64], a: &[u64], b: &[u64])
@@ -12,6 +12,8 @@ pub fn add_product(into: &mut [u64], a: &[u64], b: &[u64])
     requires second { length b.now ≡ length into.old }
     ensures { into.new ≡ row_sum into.old (negacyclic_product a.now b.now) }
 {
+    rows::known(into);
+    row_laws();
     for (i, factor) in a.iter().enumerate() {
         add_rotated(into, b, i, *factor);
     }
@@ -25,6 +27,7 @@ fn add_rotated(into: &mut [u64], b: &[u64], by: usize, factor: u64)
     requires below { by < length into.old }
     ensures { into.new ≡ sum_with_scaled into.old factor (rotation by b.now) }
 {
+    row_laws();
     let (front, back) = into.split_at_mut(by);
     let (kept, wrapped) = b.split_at(b.len() - by);
     rows::add_scaled(back, kept, factor);
@@ -37,6 +40,7 @@ pub fn rotate(into: &mut [u64], a: &[u64], by: usize)
     requires below { by < 2 * length into.old }
     ensures { into.new ≡ rotation by a.now }
 {
+    rows::known(a);
     let n = a.len();
     if by < n {
         let (front, back) = into.split_at_mut(by);

@@ -2,3 +2,4 @@ pub mod WordLaws
 pub mod RowLaws
 pub mod RoundingParts
 pub mod SignedParts
+pub mod RowLoops

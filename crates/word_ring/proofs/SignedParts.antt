@@ -1,10 +1,11 @@
 -- Signed numbers as words.
-use Rattle.std.proofs.Common.{◌≡◌, ℕ, ◌+◌, ◌-◌, ◌*◌, ◌%◌, ◌^◌, ◌<◌, ◌≤◌, ℤ, pos, ◌+ℤ◌, ◌-ℤ◌, ◌*ℤ◌, arith, ap, sym, ◌∙◌, refl, mul_comm}
+use Rattle.std.proofs.Common.{⊎_elim, ◌≡◌, ℕ, ◌+◌, ◌-◌, ◌*◌, ◌%◌, ◌^◌, ◌<◌, ◌≤◌, ℤ, pos, ◌+ℤ◌, ◌-ℤ◌, ◌*ℤ◌, ◌≤ℤ◌, ◌<ℤ◌, arith, ap, sym, ◌∙◌, refl, mul_comm}
 use lib.IntN.{negsuc, neg_ℤ}
 use Rattle.std.specs.Int.RustNames.{unsigned_abs}
+use Rattle.std.proofs.lemmas.Bool.{cases_lt, lt-ltb, le-ltb}
 use Rattle.std.proofs.lemmas.Int.{ints, int_rem_euclid_is}
 use Rattle.std.proofs.lemmas.Nat.{mul-mod, mul-mod_first, mul-mod_second}
-use Rattle.word_ring.specs.Words.{word_sum, word_difference, word_product, word_negation, size}
+use Rattle.word_ring.specs.Words.{word_sum, word_difference, word_product, word_negation, centred, size}
 use Rattle.word_ring.specs.Signed.{word_of, SignedLaws}
 use Rattle.word_ring.proofs.WordLaws.{negation-product}
 
@@ -79,6 +80,31 @@ pub size_of_word : (a : ℤ) → size (word_of a) ≤ unsigned_abs a
 size_of_word (pos n) = omega (arith, natural n)
 size_of_word (negsuc n) = rw (negative n) (omega arith)
 
+-- ---- centred numbers
+
+centred_small : (w : ℕ) → w % 2 ^ 64 < 2 ^ 63 → centred w ≡ pos (w % 2 ^ 64)
+centred_small w small = rw (lt-ltb (w % 2 ^ 64) (2 ^ 63) small) refl
+
+centred_large : (w : ℕ) → 2 ^ 63 ≤ w % 2 ^ 64 → centred w ≡ negsuc (2 ^ 64 - 1 - w % 2 ^ 64)
+centred_large w large = rw (le-ltb (w % 2 ^ 64) (2 ^ 63) large) refl
+
+word_of_centred : (w : ℕ) → word_of (centred w) ≡ w % 2 ^ 64
+word_of_centred w =
+    ⊎_elim
+    (λ (small : w % 2 ^ 64 < 2 ^ 63). ap word_of (centred_small w small) ∙ natural (w % 2 ^ 64) ∙ omega arith)
+    (λ (large : 2 ^ 63 ≤ w % 2 ^ 64). ap word_of (centred_large w large) ∙ negative (2 ^ 64 - 1 - w % 2 ^ 64) ∙ omega arith)
+    (cases_lt (w % 2 ^ 64) (2 ^ 63))
+
+centred_of_word : (a : ℤ) → negsuc (2 ^ 63 - 1) ≤ℤ a → a <ℤ pos (2 ^ 63) → centred (word_of a) ≡ a
+centred_of_word (pos n) low high =
+    let small : n < 2 ^ 63 = omega (arith, ints, high) in
+    let word : word_of (pos n) ≡ n = natural n ∙ omega arith in
+    centred_small (word_of (pos n)) (omega (arith, word)) ∙ ap pos (omega (arith, word))
+centred_of_word (negsuc n) low high =
+    let small : n + 1 ≤ 2 ^ 63 = omega (arith, ints, low) in
+    let word : word_of (negsuc n) ≡ 2 ^ 64 - (n + 1) = negative n ∙ omega arith in
+    centred_large (word_of (negsuc n)) (omega (arith, word)) ∙ ap negsuc (omega (arith, word))
+
 pub laws : SignedLaws
 laws = record {
   natural_word = natural;
@@ -87,4 +113,6 @@ laws = record {
   difference_word = difference;
   product_word = product;
   word_size = size_of_word;
+  centred_word = word_of_centred;
+  word_centred = centred_of_word;
 }

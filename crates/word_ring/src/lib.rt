@@ -1,14 +1,16 @@
 //! The words of TFHE: integers modulo 2^64, the torus of Chillotti et al. 2020, "TFHE: Fast Fully
 //! Homomorphic Encryption over the Torus", J. Cryptology 33, scaled by 2^64 and kept as a `u64`.
 //!
-//! `words` has the ring's operations with their laws, `rounding` words by their highest bits, `lin` the
-//! trait of the types that are rows of words, and `combination` weighted sums of such values.
+//! `words` has the ring's operations with their laws, `rounding` words by their highest bits, `rows` the operations
+//! on slices of words, `lin` the trait of the types that are such rows, and `combination` weighted sums of such
+//! values.
 #![tactic(auto)]
 
 mod combination;
 mod laws;
 mod lin;
 mod rounding;
+pub mod rows;
 #[cfg(test)]
 mod tests;
 mod words;

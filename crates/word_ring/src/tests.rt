@@ -1,7 +1,7 @@
 use crate::{
     Lin, centred, centred_laws, combine, mod_switch, residue_laws, ring_laws, round_to,
-    rounding_laws, row_laws, signed_laws, size_laws, switching_laws, wadd, wmul, wneg, word_of,
-    wsub,
+    rounding_laws, row_laws, rows, signed_laws, size_laws, switching_laws, wadd, wmul, wneg,
+    word_of, wsub,
 };
 
 /// The word of -1.
@@ -147,4 +147,25 @@ fn switching_takes_ties_up(rt: HostRuntime) {
         assert!(rt; 1 <= log_n && log_n <= 13);
         assert_eq!(rt; mod_switch(w, log_n), place, "{w} {log_n}");
     }
+}
+
+#[test]
+fn rows_go_word_by_word(rt: HostRuntime) {
+    let other = [MINUS_ONE, 2, LEAST];
+    let mut row = [5, 7, LEAST];
+    rows::known(&row);
+    rows::add(&mut row, &other);
+    assert_eq!(rt; row, [4, 9, 0]);
+    rows::subtract(&mut row, &other);
+    assert_eq!(rt; row, [5, 7, LEAST]);
+    rows::scale(&mut row, MINUS_ONE);
+    assert_eq!(rt; row, [18446744073709551611, 18446744073709551609, LEAST]);
+    rows::add_scaled(&mut row, &other, 3);
+    assert_eq!(rt; row, [18446744073709551608, MINUS_ONE, 0]);
+    rows::subtract_scaled(&mut row, &other, 3);
+    assert_eq!(rt; row, [18446744073709551611, 18446744073709551609, LEAST]);
+    rows::set_negated(&mut row, &other);
+    assert_eq!(rt; row, [1, 18446744073709551614, LEAST]);
+    rows::clear(&mut row);
+    assert_eq!(rt; row, [0, 0, 0]);
 }

@@ -14,15 +14,13 @@ ghost use Rattle.fhec_cmd.specs.Outside.{MayLeave};
 ghost use Rattle.fhec_cmd.specs.Steps.{Gives};
 
 use crate::commands::files::{read_file, write_file};
-use crate::status::{CircuitFault, CircuitKind, FileKind, Status};
+use crate::status::{FileKind, Status};
 use crate::words::{RunNames, is_no_eval};
 use cipher_files::{
     CipherHead, FileFault, FileRefusal, ciphertext_file_laws, params_digest, print_cipher,
     read_cipher,
 };
-use circuit_file::{
-    Circuit, CircuitRefusal, Out, Range, circuit_text_laws, dimension, read_circuit,
-};
+use circuit_file::{Circuit, Out, Range, circuit_text_laws, dimension, read_circuit};
 use circuit_run::{evaluation_laws, outputs_of};
 use lists::List;
 use lwe_core::{Big, Lwe};
@@ -41,14 +39,7 @@ fn circuit_in(alloc: Global, text: &[u8]) -> Result<Circuit, Status>
     ensures not_read { IsErrOf result Status.Read → ⊥ }
     ensures rules { IfOk result IsCircuit }
 {
-    match read_circuit(alloc, text) {
-        Ok(circuit) => Ok(circuit),
-        Err(CircuitRefusal::Memory) => Err(Status::Memory),
-        Err(CircuitRefusal::Fault) => Err(Status::Circuit(CircuitFault {
-            line: 1,
-            kind: CircuitKind::Later,
-        })),
-    }
+    Ok(read_circuit(alloc, text)?)
 }
 
 /// Whether the ranges are those of the inputs, in order.

@@ -3,16 +3,16 @@ use Rattle.negacyclic.proofs.Rotations.{product_by_rotations}
 use Rattle.negacyclic.proofs.laws.product_laws.Goals as goal
 
 pub returns : goal.returns
-returns _ = record {
+returns c = record {
   product_length = polynomials.product_length;
   product_words = polynomials.product_words;
   zero_product = polynomials.zero_product;
   product_commutative = polynomials.product_commutative;
   product_associative = polynomials.product_associative;
-  sum_product = polynomials.sum_product;
-  product_sum = polynomials.product_sum;
-  difference_product = polynomials.difference_product;
-  product_difference = polynomials.product_difference;
+  sum_product = polynomials.sum_product c.row_laws.ensures;
+  product_sum = polynomials.product_sum c.row_laws.ensures;
+  difference_product = polynomials.difference_product c.row_laws.ensures;
+  product_difference = polynomials.product_difference c.row_laws.ensures;
   scaled_product = polynomials.scaled_product;
   product_scaled = polynomials.product_scaled;
   product_by_rotations = product_by_rotations;

@@ -1,7 +1,0 @@
-use Rattle.std.proofs.Common.{arith}
-use Rattle.word_ring.specs.Words.{word_difference}
-use Rattle.negacyclic.proofs.RowLoops.{is_zip_words}
-use Rattle.negacyclic.proofs.rows.subtract.Goals as goal
-
-pub returns : goal.returns
-returns c = is_zip_words word_difference c.loop-i.row c.args.row.now c.args.other.now c.loop-i.auto.row c.requires (λ k inside. c.loop-i.invariant.done k (omega arith))
