@@ -1,3 +1,5 @@
+//! What a file says of its ciphertexts.
+
 use lists::List;
 
 /// What a file says of its ciphertexts, before their words.

@@ -1,3 +1,5 @@
+//! Reading and spelling a file.
+
 ghost use Rattle.std.specs.Prelude.{◌≡◌, ℕ, ◌+◌, ◌<◌, List, length, Some};
 ghost use Rattle.std.specs.List.{All};
 ghost use Rattle.cipher_files.specs.CiphertextFile.{CiphertextFile, IsCiphertextFile, ciphertext_bytes};

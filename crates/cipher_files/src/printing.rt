@@ -1,3 +1,5 @@
+//! Writing ciphertexts as the bytes of a file.
+
 ghost use Rattle.std.specs.Prelude.{◌≡◌, ◌<◌, ◌^◌, ◌++◌, IfOk, OnOk};
 ghost use Rattle.std.specs.List.{All, flat_map};
 ghost use Rattle.cipher_files.specs.CiphertextFile.{HasFileLimits, IsCiphertextFile, file_of, word_bytes, range_bytes, words_bytes, ciphertext_file_body, ciphertext_bytes};

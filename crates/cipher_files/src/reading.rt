@@ -1,3 +1,5 @@
+//! Reading the bytes of a file, check by check.
+
 ghost use Rattle.std.specs.Prelude.{◌≡◌, ◌+◌, ◌*◌, ◌/◌, ◌<◌, ◌≤◌, ◌^◌, length, take, drop, IfOk};
 ghost use Rattle.std.specs.Simd.{first_chunks};
 ghost use Rattle.cipher_files.specs.CiphertextFile.{IsCiphertextFile, file_of};

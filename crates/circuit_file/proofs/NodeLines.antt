@@ -15,7 +15,7 @@ use Rattle.circuit_file.specs.declared.circuit.Term.{Term}
 use Rattle.circuit_file.specs.declared.circuit.WeightedSum.{WeightedSum}
 use Rattle.circuit_file.specs.declared.circuit.Out.{Out}
 use Rattle.circuit_file.specs.Circuit.{line_feed, range_line, input_lines, term_text, sum_lines, out_line, IsRange, IsTerm, AreRising, IsSum}
-use Rattle.circuit_file.specs.NodeLines.{input_line, sum_line}
+use Rattle.circuit_file.specs.Circuit.{input_line, sum_line}
 use Rattle.circuit_file.specs.Reading.{◌>>=◌, words_at}
 use Rattle.circuit_file.specs.Numbers.{natural_field, integer_field}
 use Rattle.circuit_file.specs.CircuitReading.{many, one_more, is_range, range_at, input_line_at, inputs_at, is_term, term_at, after_term, terms_at, sum_line_at, sums_at, out_line_at, outs_at}

@@ -86,19 +86,27 @@ params_text p = glwe_line p.glwe ++ (lwe_line p.lwe ++ (gadget_line (codes "boot
 abbrev pub range_line : List ℕ → Range → List ℕ
 range_line words r = words ++ (signed_decimal r.lo ++ (codes " " ++ (signed_decimal r.hi ++ line_feed)))
 
+-- the line of the input with this number
+abbrev pub input_line : ℕ → Range → List ℕ
+input_line node r = codes "%" ++ (decimal node ++ range_line (codes " = input ") r)
+
 -- the lines of the inputs, numbered from this number on
 abbrev pub input_lines : ℕ → List Range → List ℕ
 input_lines node [] = []
-input_lines node (r ∷ rs) = (codes "%" ++ (decimal node ++ range_line (codes " = input ") r)) ++ input_lines (node + 1) rs
+input_lines node (r ∷ rs) = input_line node r ++ input_lines (node + 1) rs
 
 -- a term of a sum
 abbrev pub term_text : Term → List ℕ
 term_text t = codes " " ++ (signed_decimal t.weight ++ (codes " %" ++ decimal t.node))
 
+-- the line of the sum with this number
+abbrev pub sum_line : ℕ → WeightedSum → List ℕ
+sum_line node s = codes "%" ++ (decimal node ++ (codes " = lin " ++ (signed_decimal s.constant ++ (flat_map term_text s.terms ++ line_feed))))
+
 -- the lines of the sums, numbered from this number on
 abbrev pub sum_lines : ℕ → List WeightedSum → List ℕ
 sum_lines node [] = []
-sum_lines node (s ∷ ss) = (codes "%" ++ (decimal node ++ (codes " = lin " ++ (signed_decimal s.constant ++ (flat_map term_text s.terms ++ line_feed))))) ++ sum_lines (node + 1) ss
+sum_lines node (s ∷ ss) = sum_line node s ++ sum_lines (node + 1) ss
 
 -- the line of an output
 abbrev pub out_line : Out → List ℕ
@@ -171,7 +179,7 @@ pub record IsSum (inputs : ℕ) (s : WeightedSum) : Type 0 where
 abbrev pub span_of : Range → ℤ
 span_of r = r.hi -ℤ r.lo
 
--- an output is a node's, has its range, and the node's bound is below a quarter of the distance of two messages
+-- an output is a node's, has its range, and the node's bound is below half of the distance of two messages
 pub record IsOut (c : Circuit) (o : Out) : Type 0 where
   pub node : o.node < node_count c
   pub same : o.range ≡ range_of_node c o.node

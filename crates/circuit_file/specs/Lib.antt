@@ -2,7 +2,6 @@ pub mod Ranges
 pub mod Reading
 pub mod Numbers
 pub mod Circuit
-pub mod NodeLines
 pub mod CircuitReading
 pub mod CircuitLaws
 pub mod Refusal

@@ -4,21 +4,21 @@ ghost use Rattle.std.specs.Prelude.{◌≡◌, ◌≤◌, length, option_map, If
 ghost use Rattle.circuit_file.specs.CircuitReading.{range_at as range_of, is_term as term_test, input_line_at as input_of, inputs_at as inputs_of, term_at as term_of, terms_at as terms_of, sum_line_at as sum_of, sums_at as sums_of, out_line_at as out_of, outs_at as outs_of};
 ghost use Rattle.circuit_file.specs.Refusal.{Gives};
 
-use super::refusal::TextRefusal;
 use crate::circuit::{Out, Range, Term, WeightedSum};
 use crate::ranges::is_input_range;
 use crate::reading::{integer_field, natural_field, words_at};
+use crate::refusal::TextRefusal;
 use lists::List;
 use std::alloc::Global;
 
 /// How many inputs a circuit has at most.
-pub const MOST_INPUTS: u64 = 64;
+const MOST_INPUTS: u64 = 64;
 
 /// How many terms a sum has at most: their nodes are inputs, and rise.
 const MOST_TERMS: u64 = 64;
 
 /// How many sums a circuit has at most.
-pub const MOST_SUMS: u64 = 1088;
+const MOST_SUMS: u64 = 1088;
 
 /// How many outputs a circuit has at most.
 const MOST_OUTS: u64 = 64;

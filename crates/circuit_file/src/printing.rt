@@ -3,8 +3,7 @@
 ghost use Rattle.std.specs.Prelude.{◌≡◌, ◌++◌, ◌+◌, ◌<◌, ◌^◌, length, codes, OnOk, IfOk};
 ghost use Rattle.std.specs.String.{string_bytes};
 ghost use Rattle.std.specs.List.{flat_map};
-ghost use Rattle.circuit_file.specs.NodeLines.{input_line, sum_line};
-ghost use Rattle.circuit_file.specs.Circuit.{glwe_line, lwe_line, gadget_line, params_text, range_line, input_lines, term_text, sum_lines, out_line, circuit_text, IsCircuit};
+ghost use Rattle.circuit_file.specs.Circuit.{glwe_line, lwe_line, gadget_line, params_text, range_line, input_line, input_lines, term_text, sum_line, sum_lines, out_line, circuit_text, IsCircuit};
 
 use crate::circuit::{
     Circuit, Gadget, GlweChoice, LweChoice, Out, Params, Range, Term, WeightedSum,

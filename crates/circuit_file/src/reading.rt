@@ -61,7 +61,7 @@ fn digit_count(bytes: &[u8]) -> usize
 
 /// The number that all digits at the front spell, and the bytes after them.
 #[tactic(auto, unfolding(crate::specs::Numbers::natural_at))]
-pub fn natural_at(bytes: &[u8]) -> Option<(u64, &[u8])>
+fn natural_at(bytes: &[u8]) -> Option<(u64, &[u8])>
     ensures value { option_map (λ x. (x.0, x.1.now)) result ≡ natural_of bytes.now }
     ensures limit { IfSome result (λ x. x.0 < 2 ^ 63) }
 {
@@ -72,7 +72,7 @@ pub fn natural_at(bytes: &[u8]) -> Option<(u64, &[u8])>
 
 /// The number with a minus directly before it, which zero has not, or without, and the bytes after it.
 #[tactic(auto, unfolding(crate::specs::Numbers::integer_at))]
-pub fn integer_at(bytes: &[u8]) -> Option<(i64, &[u8])>
+fn integer_at(bytes: &[u8]) -> Option<(i64, &[u8])>
     ensures { option_map (λ x. (x.0, x.1.now)) result ≡ integer_of bytes.now }
 {
     match bytes {

@@ -1,16 +1,18 @@
 -- The rows that a sum is made of.
-use Rattle.std.proofs.Common.{◌≡◌, ℕ, ◌+◌, ◌<◌, List, [], ◌∷◌, length, map, get_or, All, Bool, true, false, cond, ltb, refl, ap, ◌∙◌, arith}
+use Rattle.std.proofs.Common.{◌≡◌, ℕ, ◌+◌, ◌%◌, ◌^◌, ◌<◌, List, [], ◌∷◌, length, map, get_or, All, Bool, true, false, cond, ltb, refl, ap, ◌∙◌, arith}
 use Rattle.std.specs.Prelude.{replicate, IfSome}
 use Rattle.std.specs.List.{enumerate_from, slice_get}
 use Rattle.std.proofs.lemmas.List.{length-map, length-replicate}
-use Rattle.std.proofs.lemmas.List.Elements.{All-map}
+use Rattle.std.proofs.lemmas.List.Elements.{All-map, All-set}
 use Rattle.std.proofs.lemmas.List.FromFn.{length-enumerate_from}
 use Rattle.std.proofs.lemmas.Option.{slice_get-get_or}
 use Rattle.std.proofs.lemmas.List.{map-id}
 use Rattle.std.proofs.lemmas.Simd.{map-map}
 use Rattle.std.proofs.lemmas.Bool.{ltb-true}
 use Rattle.std.proofs.lemmas.List.{length-set}
-use Rattle.word_ring.specs.Rows.{rows_at}
+use Rattle.word_ring.specs.Words.{IsWord}
+use Rattle.word_ring.specs.Rows.{rows_at, combined, weighted_sum}
+use Rattle.word_ring.specs.Signed.{word_of}
 use Rattle.circuit_file.specs.declared.circuit.Term.{Term}
 use Rattle.circuit_file.specs.declared.circuit.Circuit.{Circuit}
 use Rattle.circuit_file.specs.Circuit.{IsTerm, dimension, sum_at}
@@ -51,3 +53,22 @@ outputs_number c rows = length-map c.outs (λ o. node_row c rows o.node)
 
 pub outputs_long : (c : Circuit) (rows : List (List ℕ)) → All (λ row. length row ≡ dimension c.params + 1) rows → length rows ≡ length c.inputs → All (λ row. length row ≡ dimension c.params + 1) (output_rows c rows)
 outputs_long c rows long number = All-map (λ row. length row ≡ dimension c.params + 1) (λ o. node_row c rows o.node) c.outs (λ k d lt. length-node_row c rows (get_or c.outs k d).node long number)
+
+-- ---- each node's words are words
+
+words-combined : (into weights : List ℕ) (rows : List (List ℕ)) → All IsWord (combined into weights rows)
+words-combined into weights rows = All-map IsWord (λ p. (p.1 + weighted_sum weights rows p.0) % 2 ^ 64) (enumerate_from 0 into) (λ k d lt. omega arith)
+
+words-chosen : (b : Bool) (x y : List ℕ) → (b ≡ true → All IsWord x) → All IsWord y → All IsWord (cond b x y)
+words-chosen true x y first second = first refl
+words-chosen false x y first second = second
+
+words-node_row : (c : Circuit) (rows : List (List ℕ)) (node : ℕ) → All (All IsWord) rows → length rows ≡ length c.inputs → All IsWord (node_row c rows node)
+words-node_row c rows node are number =
+    let s = sum_at c node in
+    words-chosen (ltb node (length c.inputs)) (row_of rows node) (sum_row (dimension c.params) c.width rows s)
+    (λ e. let below : node < length rows = omega (arith, ltb-true node (length c.inputs) e) in are node [] below)
+    (All-set IsWord (weighted_row (dimension c.params) rows s.terms) (dimension c.params) _ (omega arith) (words-combined (replicate (dimension c.params + 1) 0) (map (λ t. word_of t.weight) s.terms) (map (λ t. row_of rows t.node) s.terms)))
+
+pub words-output_rows : (c : Circuit) (rows : List (List ℕ)) → All (All IsWord) rows → length rows ≡ length c.inputs → All (All IsWord) (output_rows c rows)
+words-output_rows c rows are number = All-map (All IsWord) (λ o. node_row c rows o.node) c.outs (λ k d lt. words-node_row c rows (get_or c.outs k d).node are number)

@@ -24,7 +24,7 @@ use Rattle.circuit_file.specs.Circuit.{dimension, node_count, int_sum, sum_at, i
 use Rattle.circuit_run.specs.Clear.{value_of, value_of_sum, clear_value, IsIn, AreInRange}
 use Rattle.circuit_run.specs.Evaluation.{row_of, weighted_row, sum_row, node_row}
 use Rattle.circuit_run.specs.Noise.{StandFor, AreGood, IsRight, AreRight, EvaluationLaws}
-use Rattle.circuit_run.proofs.EvaluationLemmas.{length-weighted_row}
+use Rattle.circuit_run.proofs.EvaluationLemmas.{length-weighted_row, outputs_long, words-output_rows}
 use Rattle.circuit_run.proofs.ClearRanges.{value_in, sum_in}
 
 -- what is known of ciphertexts
@@ -157,5 +157,7 @@ pub evaluation : CiphertextLaws → EvaluationLaws
 evaluation laws = record {
   node_noise = node_noise laws;
   node_range = node_range;
+  output_lengths = outputs_long;
+  output_words = words-output_rows;
   outputs_right = λ c big small values rows is long good. outputs_right laws c big small values rows c.outs is long good (recursion_from_All (IsOut c) c.outs is.outs);
 }

@@ -1,5 +1,6 @@
 -- What the ciphertexts of a circuit stand for.
 use Rattle.std.specs.Prelude.{◌≡◌, ℕ, ◌+◌, ◌<◌, Bool, List, [], ◌∷◌, length, All, ℤ, pos, ◌+ℤ◌}
+use Rattle.word_ring.specs.Words.{IsWord}
 use Rattle.lwe_core.specs.Secret.{HasDimensions}
 use Rattle.lwe_core.specs.Phase.{phase_of}
 use Rattle.lwe_core.specs.Decoding.{decoded}
@@ -40,5 +41,9 @@ pub record EvaluationLaws : Type 0 where
   pub node_noise : (c : Circuit) (big small : List Bool) (values : List ℤ) (rows : List (List ℕ)) (node : ℕ) → IsCircuit c → All (λ row. length row ≡ dimension c.params + 1) rows → AreGood c big small values rows → node < node_count c → Encrypts big (node_row c rows node) (clear_value c values node) c.width (bound_of_node c node)
   -- and that value lies in the node's range
   pub node_range : (c : Circuit) (values : List ℤ) (node : ℕ) → IsCircuit c → AreInRange c.inputs values → node < node_count c → IsIn (range_of_node c node) (clear_value c values node)
+  -- the outputs have the circuit's dimension, as the inputs
+  pub output_lengths : (c : Circuit) (rows : List (List ℕ)) → All (λ row. length row ≡ dimension c.params + 1) rows → length rows ≡ length c.inputs → All (λ row. length row ≡ dimension c.params + 1) (output_rows c rows)
+  -- they are words, where the inputs are
+  pub output_words : (c : Circuit) (rows : List (List ℕ)) → All (All IsWord) rows → length rows ≡ length c.inputs → All (All IsWord) (output_rows c rows)
   -- so each output is right
   pub outputs_right : (c : Circuit) (big small : List Bool) (values : List ℤ) (rows : List (List ℕ)) → IsCircuit c → All (λ row. length row ≡ dimension c.params + 1) rows → AreGood c big small values rows → AreRight c big c.outs (output_rows c rows) (clear_values c values)

@@ -1,30 +1,38 @@
 -- The headline follows from what a run leaves, and from the laws of its files and of evaluation.
-use Rattle.std.proofs.Common.{◌≡◌, ℕ, ◌+◌, ltb, Bool, true, false, cond, List, [], ◌∷◌, ◌==◌, length, All, Option, Some, None, Result, Ok, Err, refl, sym, ap, subst, ◌∙◌}
+use Rattle.std.proofs.Common.{◌≡◌, ℕ, ◌+◌, ◌<◌, ℤ, ltb, Bool, true, false, ◌&&◌, cond, List, [], ◌∷◌, ◌==◌, length, All, Option, Some, None, Result, Ok, Err, refl, sym, ap, subst, ◌∙◌}
 use Rattle.std.specs.FinMap.{get, insert, get-insert}
+use Prim.Native.Nat.{suc}
+use Rattle.std.specs.Ordering.{int_eq}
 use Rattle.std.specs.Str.{bytes_eq}
-use Rattle.std.proofs.lemmas.Bool.{eqb-true, and_parts}
+use Rattle.std.proofs.lemmas.Bool.{eqb-true, and_parts, false≢true}
+use Rattle.std.proofs.lemmas.List.{length-map}
 use Rattle.std.proofs.lemmas.Cmp.{nat_list_cmp_total, eq_by_cmp_equiv}
 use Rattle.port_store.specs.Files.{Bytes, Files, Told}
+use Rattle.circuit_file.specs.declared.circuit.Range.{Range}
 use Rattle.circuit_file.specs.declared.circuit.Circuit.{Circuit}
 use Rattle.circuit_file.specs.Circuit.{dimension}
 use Rattle.circuit_file.specs.CircuitReading.{circuit_of}
 use Rattle.circuit_file.specs.CircuitLaws.{ReadIsSpelled}
-use Rattle.cipher_files.specs.CiphertextFile.{CiphertextFile, ciphertext_bytes}
+use Rattle.cipher_files.specs.CiphertextFile.{CiphertextFile, IsCiphertextFile, ciphertext_bytes}
 use Rattle.cipher_files.specs.CiphertextReading.{ciphertext_file_of}
 use Rattle.cipher_files.specs.ParamsDigest.{params_digest}
+use Rattle.circuit_run.specs.Evaluation.{output_rows}
 use Rattle.circuit_run.specs.Noise.{EvaluationLaws}
 use Rattle.fhec_cmd.specs.declared.status.Status.{Status}
 use Rattle.fhec_cmd.specs.declared.status.Status.TheVariants as status
 use Rattle.fhec_cmd.specs.CommandLine.{RunWords, run, is_no_eval}
 use Rattle.fhec_cmd.specs.Outcome.{Outcome, ◌>>=◌, unless, found, bounded, reading, finished, outcome_from, written}
 use Rattle.fhec_cmd.specs.Outside.{Outside, MayLeave}
-use Rattle.fhec_cmd.specs.Run.{is_input_of, output_file, circuit_in, circuit_from, inputs_in, run_output, run_outcome, circuit_limit, file_limit, bad_cipher}
-use Rattle.fhec_cmd.specs.Headline.{RunIsRight, Headline}
+use Rattle.fhec_cmd.specs.Run.{are_input_ranges, is_input_of, output_file, circuit_in, circuit_from, inputs_in, run_output, run_outcome, circuit_limit, file_limit, bad_cipher}
+use Rattle.fhec_cmd.specs.Steps.{Refuses}
+use Rattle.fhec_cmd.specs.Headline.{HoldsBytes, RunIsRight, Headline}
+use Rattle.fhec_cmd.proofs.OutputLemmas.{output_limits}
 
 -- the laws that it stands on
 pub record RunLaws : Type 0 where
   pub texts : ReadIsSpelled
-  pub lengths : (bytes : List ℕ) (file : CiphertextFile) → ciphertext_file_of bytes ≡ Some file → All (λ words. length words ≡ file.dim + 1) file.ciphertexts
+  pub taken : (bytes : List ℕ) (file : CiphertextFile) → All (λ byte. byte < 256) bytes → ciphertext_file_of bytes ≡ Some file → IsCiphertextFile file × (bytes ≡ ciphertext_bytes file)
+  pub again : (file : CiphertextFile) → IsCiphertextFile file → ciphertext_file_of (ciphertext_bytes file) ≡ Some file
   pub evaluation : EvaluationLaws
 
 -- ---- no step refuses with Ok
@@ -175,6 +183,19 @@ fitting_dimension c file e =
     let behind = (and_parts (bytes_eq file.digest (params_digest c.params)) _ e).1 in
     eqb-true file.dim (dimension c.params) (and_parts (file.dim == dimension c.params) _ behind).0
 
+fitting_ranges : (inputs : List Range) (ranges : List (ℤ × ℤ)) → are_input_ranges inputs ranges ≡ true → length inputs ≡ length ranges
+fitting_ranges [] [] e = refl
+fitting_ranges [] (r ∷ rs) e = absurd (false≢true e)
+fitting_ranges (i ∷ is) [] e = absurd (false≢true e)
+fitting_ranges (i ∷ is) (r ∷ rs) e = ap suc (fitting_ranges is rs (and_parts (int_eq r.0 i.lo && int_eq r.1 i.hi) (are_input_ranges is rs) e).1)
+
+-- and their number
+fitting_number : (c : Circuit) (file : CiphertextFile) → is_input_of c file ≡ true → length c.inputs ≡ length file.ranges
+fitting_number c file e =
+    let first = (and_parts (bytes_eq file.digest (params_digest c.params)) _ e).1 in
+    let second = (and_parts (file.dim == dimension c.params) _ first).1 in
+    fitting_ranges c.inputs file.ranges (and_parts (file.width == c.width) (are_input_ranges c.inputs file.ranges) second).1
+
 -- ---- the file that was put is there
 
 get_put : (files : Files) (name bytes : Bytes) → get (insert files name bytes) name ≡ Some bytes
@@ -182,20 +203,33 @@ get_put files name bytes = get-insert nat_list_cmp_total files name bytes name �
 
 -- ---- a run that answered Ok
 
-right : RunLaws → (words : RunWords) (before after : Files) (output : Bytes) → Found words before output → after ≡ insert before words.output output → RunIsRight words before after
-right laws words before after output f put =
+right : RunLaws → (words : RunWords) (before after : Files) (output : Bytes) → Found words before output → HoldsBytes before words.cipher → after ≡ insert before words.output output → RunIsRight words before after
+right laws words before after output f holds put =
     let rules = laws.texts f.text f.circuit f.circuit_read in
+    let inputs = laws.taken f.bytes f.inputs (holds f.bytes f.bytes_held) f.inputs_read in
+    let rows : List (List ℕ) = f.inputs.ciphertexts in
     let dim : f.inputs.dim ≡ dimension f.circuit.params = fitting_dimension f.circuit f.inputs f.fitting in
-    let long = subst (λ (d : ℕ). All (λ words. length words ≡ d + 1) f.inputs.ciphertexts) dim (laws.lengths f.bytes f.inputs f.inputs_read) in
+    let number : length rows ≡ length f.circuit.inputs = inputs.0.limits.number ∙ sym (fitting_number f.circuit f.inputs f.fitting) in
+    let long = subst (λ (d : ℕ). All (λ words. length words ≡ d + 1) rows) dim inputs.0.limits.ciphertexts in
+    let outputs : CiphertextFile = output_file f.circuit f.inputs in
+    let output_long = laws.evaluation.output_lengths f.circuit rows long number in
+    let is_file : IsCiphertextFile outputs = record {
+      limits = output_limits f.circuit f.inputs rules.0 inputs.0.limits (length-map f.circuit.outs _) (subst (λ (d : ℕ). All (λ words. length words ≡ d + 1) (output_rows f.circuit rows)) (sym dim) output_long);
+      digest = inputs.0.digest;
+      words = laws.evaluation.output_words f.circuit rows inputs.0.words number;
+    } in
     record {
       circuit = f.circuit;
       inputs = f.inputs;
       rules = rules.0;
       text = f.text_held ∙ ap (λ z. Some z) rules.1;
-      cipher = record { bytes = f.bytes; held = f.bytes_held; spelled = f.inputs_read };
+      cipher = record { held = f.bytes_held ∙ ap (λ z. Some z) inputs.1; spelled = laws.again f.inputs inputs.0 };
       fitting = f.fitting;
-      output = ap (λ files. get files words.output) put ∙ get_put before words.output output ∙ ap (λ z. Some z) (sym f.spelled);
-      right = λ big small values good. laws.evaluation.outputs_right f.circuit big small values f.inputs.ciphertexts rules.0 long good;
+      written = record {
+        held = ap (λ files. get files words.output) put ∙ get_put before words.output output ∙ ap (λ z. Some z) (sym f.spelled);
+        spelled = laws.again outputs is_file;
+      };
+      right = λ big small values good. laws.evaluation.outputs_right f.circuit big small values rows rules.0 long good;
     }
 
 -- the outcome of a run whose output is this
@@ -210,18 +244,28 @@ told_both step None p x y e f told = absurd cc
 told_both step (Some a) None x y e f told = absurd cc
 told_both step (Some a) (Some b) x y e f told = subst (λ z. step z y) (some_is a x e) (subst (λ z. step a z) (some_is b y f) told)
 
-done : RunLaws → (words : RunWords) (before after : Files) (step : Result Bytes Status) → run_output words before ≡ step → NeverOk step → (outcome_with words step).answer ≡ status.Ok → after ≡ written (outcome_with words step).writes before → RunIsRight words before after
-done laws words before after (Ok output) e never answer put = right laws words before after output (output_found words before output e) put
-done laws words before after (Err s) e never answer put = absurd (never answer)
+done : RunLaws → (words : RunWords) (before after : Files) (step : Result Bytes Status) → run_output words before ≡ step → NeverOk step → HoldsBytes before words.cipher → (outcome_with words step).answer ≡ status.Ok → after ≡ written (outcome_with words step).writes before → RunIsRight words before after
+done laws words before after (Ok output) e never holds answer put = right laws words before after output (output_found words before output e) holds put
+done laws words before after (Err s) e never holds answer put = absurd (never answer)
 
-pub headline_of_run : RunLaws → (words : RunWords) (answer : Status) (earlier later : Outside) → MayLeave (run_outcome words) answer earlier later → (before after : Files) → earlier.files ≡ Some before → later.files ≡ Some after → Headline (run words) answer before after
-headline_of_run laws words status.Ok earlier later may before after p q =
+pub headline_of_run : RunLaws → (words : RunWords) (answer : Status) (earlier later : Outside) → MayLeave (run_outcome words) answer earlier later → (before after : Files) → (answer ≡ status.Ok → HoldsBytes before words.cipher) → earlier.files ≡ Some before → later.files ≡ Some after → Headline (run words) answer before after
+headline_of_run laws words status.Ok earlier later may before after holds p q =
     let told = may.told before p in
-    done laws words before after (run_output words before) refl (output_never words before) told.1 (told_both _ earlier.files later.files before after p q told.0.files)
-headline_of_run laws words status.Usage earlier later may before after p q = tt
-headline_of_run laws words (status.Circuit f) earlier later may before after p q = tt
-headline_of_run laws words (status.File k f) earlier later may before after p q = tt
-headline_of_run laws words (status.Limit f) earlier later may before after p q = tt
-headline_of_run laws words status.Read earlier later may before after p q = tt
-headline_of_run laws words status.Write earlier later may before after p q = tt
-headline_of_run laws words status.Memory earlier later may before after p q = tt
+    done laws words before after (run_output words before) refl (output_never words before) (holds refl) told.1 (told_both _ earlier.files later.files before after p q told.0.files)
+headline_of_run laws words status.Usage earlier later may before after holds p q = tt
+headline_of_run laws words (status.Circuit f) earlier later may before after holds p q = tt
+headline_of_run laws words (status.File k f) earlier later may before after holds p q = tt
+headline_of_run laws words (status.Limit f) earlier later may before after holds p q = tt
+headline_of_run laws words status.Read earlier later may before after holds p q = tt
+headline_of_run laws words status.Write earlier later may before after holds p q = tt
+headline_of_run laws words status.Memory earlier later may before after holds p q = tt
+
+-- an answer that the definition gives as a refusal is not Ok
+pub refused_not_ok : (fault : Type 0) (answer : Status) (words : RunWords) (files : Files) → Refuses fault answer (run_output words files) → answer ≡ status.Ok → ⊥
+refused_not_ok fault answer words files refuses ok =
+    let err : run_output words files ≡ Err status.Ok = subst (λ (s : Status). Refuses fault s (run_output words files)) ok refuses in
+    output_never words files (ap refusal_of err)
+
+-- the bytes that were read of a file are those that it holds
+pub holds_read : (files : Files) (name : Bytes) (most : ℕ) (read : Bytes) → reading files name most ≡ Ok read → All (λ byte. byte < 256) read → HoldsBytes files name
+holds_read files name most read e fits bytes held = subst (λ (b : Bytes). All (λ byte. byte < 256) b) (some_is read bytes (sym (bounded_ok most (get files name) read e) ∙ held)) fits

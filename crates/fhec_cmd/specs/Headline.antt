@@ -1,5 +1,5 @@
 -- The headline: what `run` writes decrypts to the values of the circuit on whole numbers.
-use Rattle.std.specs.Prelude.{◌≡◌, Bool, true, List, Some, ℤ}
+use Rattle.std.specs.Prelude.{◌≡◌, ◌<◌, All, Bool, true, List, Some, ℤ}
 use Rattle.std.specs.FinMap.{get}
 use Rattle.port_store.specs.Files.{Bytes, Files}
 use Rattle.circuit_file.specs.declared.circuit.Circuit.{Circuit}
@@ -13,11 +13,14 @@ use Rattle.fhec_cmd.specs.declared.status.Status.TheVariants as status
 use Rattle.fhec_cmd.specs.CommandLine.{RunWords, Request, run}
 use Rattle.fhec_cmd.specs.Run.{is_input_of, output_file}
 
--- the bytes of a file spell a file of ciphertexts
+-- the bytes of a file, which are the one spelling of these ciphertexts, are read as them
 pub record Spells (files : Files) (name : Bytes) (file : CiphertextFile) : Type 0 where
-  pub bytes : Bytes
-  pub held : get files name ≡ Some bytes
-  pub spelled : ciphertext_file_of bytes ≡ Some file
+  pub held : get files name ≡ Some (ciphertext_bytes file)
+  pub spelled : ciphertext_file_of (ciphertext_bytes file) ≡ Some file
+
+-- a file that is there holds bytes
+abbrev pub HoldsBytes : Files → Bytes → Type 0
+HoldsBytes files name = (bytes : Bytes) → get files name ≡ Some bytes → All (λ byte. byte < 256) bytes
 
 -- a run over these files did what its circuit says, on whatever its inputs stand for
 pub record RunIsRight (words : RunWords) (before after : Files) : Type 0 where
@@ -31,7 +34,7 @@ pub record RunIsRight (words : RunWords) (before after : Files) : Type 0 where
   pub cipher : Spells before words.cipher inputs
   pub fitting : is_input_of circuit inputs ≡ true
   -- OUTPUT holds the words of evaluation, under the outputs' own ranges
-  pub output : get after words.output ≡ Some (ciphertext_bytes (output_file circuit inputs))
+  pub written : Spells after words.output (output_file circuit inputs)
   -- and for every secret key of the circuit's dimensions, all values in the input ranges, and inputs that stand for them within the error of fresh ciphertexts, each of the output's ciphertexts stands for its value on whole numbers within its bound, and decodes to it over its range's least number
   pub right : (big small : List Bool) (values : List ℤ) → AreGood circuit big small values inputs.ciphertexts → AreRight circuit big circuit.outs (output_file circuit inputs).ciphertexts (clear_values circuit values)
 

@@ -51,14 +51,14 @@ abbrev pub circuit_in : Bytes → Result Circuit Status
 circuit_in text = found (status.Circuit text_fault) (circuit_of text)
 
 -- what a refusal of the reader of circuits is answered with
-abbrev pub circuit_refusal : CircuitRefusal → Status
-circuit_refusal (circuit.Fault fault) = status.Circuit fault
-circuit_refusal circuit.Memory = status.Memory
+abbrev pub circuit_answer : CircuitRefusal → Status
+circuit_answer (circuit.Fault fault) = status.Circuit fault
+circuit_answer circuit.Memory = status.Memory
 
 -- what a refusal of the reader of ciphertext files is answered with
-abbrev pub cipher_refusal : FileRefusal → Status
-cipher_refusal (refusal.Fault fault) = status.File file_kind.Cipher fault
-cipher_refusal refusal.Memory = status.Memory
+abbrev pub cipher_answer : FileRefusal → Status
+cipher_answer (refusal.Fault fault) = status.File file_kind.Cipher fault
+cipher_answer refusal.Memory = status.Memory
 
 -- the refusal of a ciphertext file
 abbrev pub bad_cipher : Status

@@ -31,7 +31,7 @@ pub fn fhec<S: Store, O: Sink>(
     store: &mut S,
     out: &mut O,
 ) -> Status
-    // Words that are no command are answered at once: nothing is called and no memory taken.
+    // Words that are no command are answered with Usage, and leave the store and the sink as they were.
     ensures usage { request_of (map string_bytes words.now) ≡ faulty → (result ≡ Status.Usage) × (store.new ≡ store.old) × (out.new ≡ out.old) }
     // What is answered and what is left, whatever the store and the sink do.
     ensures outcome { MayLeave (outcome_of (map string_bytes words.now)) result

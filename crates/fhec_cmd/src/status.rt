@@ -2,7 +2,7 @@
 
 ghost use Rattle.std.specs.Prelude.{◌≡◌};
 ghost use Rattle.fhec_cmd.specs.declared.status.Status.TheVariants.{Memory};
-ghost use Rattle.fhec_cmd.specs.Run.{circuit_refusal, cipher_refusal};
+ghost use Rattle.fhec_cmd.specs.Run.{circuit_answer, cipher_answer};
 
 use cipher_files::{FileFault, FileRefusal};
 use circuit_file::{CircuitFault, CircuitRefusal};
@@ -67,7 +67,7 @@ impl<T: Drop> From<AllocFailed<T>> for Status {
 }
 
 impl From<CircuitRefusal> for Status {
-    ghost from_gives = { λ refusal answer. answer ≡ circuit_refusal refusal };
+    ghost from_gives = { λ refusal answer. answer ≡ circuit_answer refusal };
 
     fn from(refusal: CircuitRefusal) -> Status {
         match refusal {
@@ -78,7 +78,7 @@ impl From<CircuitRefusal> for Status {
 }
 
 impl From<FileRefusal> for Status {
-    ghost from_gives = { λ refusal answer. answer ≡ cipher_refusal refusal };
+    ghost from_gives = { λ refusal answer. answer ≡ cipher_answer refusal };
 
     fn from(refusal: FileRefusal) -> Status {
         match refusal {

@@ -6,19 +6,15 @@ use Rattle.std.proofs.Math.Nat.{add-mul}
 use Rattle.std.proofs.lemmas.Int.{ints, int_rem_euclid_is}
 use Rattle.std.proofs.lemmas.Nat.{div-mul-add, pow-add}
 use Rattle.word_ring.specs.Words.{size, SizeLaws}
-use Rattle.word_ring.specs.Signed.{word_of}
+use Rattle.word_ring.specs.Signed.{word_of, SignedLaws}
 use Rattle.lwe_core.specs.Phase.{phase_of}
 use Rattle.lwe_core.specs.Decoding.{decoded}
 use Rattle.lwe_core.proofs.DecodingParts.{offset_below}
 use Rattle.lwe_core.specs.Encrypts.{centred_error, DecodingLaws}
 
 -- the word of a number and a natural one
-word_of-plus : (z : ℤ) (b : ℕ) → word_of (z +ℤ pos b) ≡ (word_of z + b) % 2 ^ 64
-word_of-plus (pos a) b = omega arith
-word_of-plus (negsuc a) b =
-    let alone : word_of (negsuc a) ≡ ((a + 1) * (2 ^ 64 - 1)) % 2 ^ 64 = ap unsigned_abs (int_rem_euclid_is (negsuc a) (pos (2 ^ 64)) (2 ^ 64) (a + 1) ((a + 1) * (2 ^ 64 - 1)) (omega arith) refl (omega (arith, ints))) in
-    let more : word_of (negsuc a +ℤ pos b) ≡ ((a + 1) * (2 ^ 64 - 1) + b) % 2 ^ 64 = ap unsigned_abs (int_rem_euclid_is (negsuc a +ℤ pos b) (pos (2 ^ 64)) (2 ^ 64) (a + 1) ((a + 1) * (2 ^ 64 - 1) + b) (omega arith) refl (omega (arith, ints))) in
-    more ∙ omega (arith, alone)
+word_of-plus : SignedLaws → (z : ℤ) (b : ℕ) → word_of (z +ℤ pos b) ≡ (word_of z + b) % 2 ^ 64
+word_of-plus signed z b = signed.sum_word z (pos b) ∙ omega (arith, signed.natural_word b)
 
 -- a number that is not negative is its absolute value
 not_negative : (z : ℤ) → pos 0 ≤ℤ z → z ≡ pos (unsigned_abs z)
@@ -67,8 +63,8 @@ one_more : (j n : ℕ) → n ≡ j + 1 → 2 ^ n ≡ 2 ^ j * 2 ^ 1
 one_more j n e = ap (λ k. 2 ^ k) e ∙ pow-add 2 j 1
 
 -- the same in numbers: the offset of a value n over the least
-near : SizeLaws → (phase width n : ℕ) (lo value : ℤ) → width ≤ 62 → value ≡ lo +ℤ pos n → n < 2 ^ width → unsigned_abs (centred_error phase value width) < 2 ^ (62 - width) → decoded phase width lo ≡ n
-near sizes phase width n lo value fits gap below small =
+near : SizeLaws → SignedLaws → (phase width n : ℕ) (lo value : ℤ) → width ≤ 62 → value ≡ lo +ℤ pos n → n < 2 ^ width → unsigned_abs (centred_error phase value width) < 2 ^ (62 - width) → decoded phase width lo ≡ n
+near sizes signed phase width n lo value fits gap below small =
     let s : ℕ = 2 ^ (63 - width) in
     let h : ℕ = 2 ^ (62 - width) in
     let z : ℤ = pos phase -ℤ value *ℤ pos s in
@@ -78,27 +74,22 @@ near sizes phase width n lo value fits gap below small =
     let short : h ≤ 2 ^ 62 = omega (arith, twice, room) in
     let close : size e < h = subst (λ k. k < h) (sizes.size_centred e) small in
     let over : word_of ((pos phase -ℤ lo *ℤ pos s) +ℤ pos h) ≡ (e + (n * s + h)) % 2 ^ 64 =
-    ap word_of (moved phase h (n * s) (lo *ℤ pos s) (value *ℤ pos s) (times_gap lo value n s gap)) ∙ word_of-plus z (n * s + h) in
+    ap word_of (moved phase h (n * s) (lo *ℤ pos s) (value *ℤ pos s) (times_gap lo value n s gap)) ∙ word_of-plus signed z (n * s + h) in
     let apart : (e + (n * s + h)) % 2 ^ 64 ≡ n * s + (e + h) % 2 ^ 64 = no_wrap e h (n * s) short close (omega (arith, twice, room)) in
     ap (λ x. x / s) (over ∙ apart) ∙ div-mul-add n s ((e + h) % 2 ^ 64) (omega (arith, twice, left_over e h short close))
 
-near_value : SizeLaws → (phase width : ℕ) (lo hi value : ℤ) → width ≤ 62 → unsigned_abs (centred_error phase value width) < 2 ^ (62 - width) → lo ≤ℤ value → value ≤ℤ hi → (hi -ℤ lo) <ℤ pos (2 ^ width) → pos (decoded phase width lo) ≡ (value -ℤ lo)
-near_value sizes phase width lo hi value fits small least most few =
+near_value : SizeLaws → SignedLaws → (phase width : ℕ) (lo hi value : ℤ) → width ≤ 62 → unsigned_abs (centred_error phase value width) < 2 ^ (62 - width) → lo ≤ℤ value → value ≤ℤ hi → (hi -ℤ lo) <ℤ pos (2 ^ width) → pos (decoded phase width lo) ≡ (value -ℤ lo)
+near_value sizes signed phase width lo hi value fits small least most few =
     let n : ℕ = unsigned_abs (value -ℤ lo) in
     let is : value -ℤ lo ≡ pos n = not_negative (value -ℤ lo) (omega (arith, ints, least)) in
     let gap : value ≡ lo +ℤ pos n = omega (arith, ints, is) in
     let below : n < 2 ^ width = omega (arith, ints, is, most, few) in
-    ap pos (near sizes phase width n lo value fits gap below small) ∙ sym is
+    ap pos (near sizes signed phase width n lo value fits gap below small) ∙ sym is
 
--- a word is below 2^64
-word_of_below : (z : ℤ) → word_of z < 2 ^ 64
-word_of_below (pos a) = omega arith
-word_of_below (negsuc a) = omega arith
-
-pub laws : SizeLaws → DecodingLaws
-laws sizes = record {
-  decoded_near = near_value sizes;
-  decoded_below = λ phase width lo fits. offset_below _ width (word_of_below ((pos phase -ℤ lo *ℤ pos (2 ^ (63 - width))) +ℤ pos (2 ^ (62 - width)))) fits;
+pub laws : SizeLaws → SignedLaws → DecodingLaws
+laws sizes signed = record {
+  decoded_near = near_value sizes signed;
+  decoded_below = λ phase width lo fits. offset_below _ width (signed.number_word ((pos phase -ℤ lo *ℤ pos (2 ^ (63 - width))) +ℤ pos (2 ^ (62 - width)))) fits;
   decoded_encrypted = λ bits words width bound lo hi value fits stands small least most few.
-      near_value sizes (phase_of bits words) width lo hi value fits (omega (arith, stands, small)) least most few;
+      near_value sizes signed (phase_of bits words) width lo hi value fits (omega (arith, stands, small)) least most few;
 }

@@ -4,7 +4,7 @@ ghost use Rattle.std.specs.Prelude.{◌≡◌, ◌≤◌};
 ghost use Rattle.lwe_core.specs.Decoding.{decoded, encoded};
 ghost use Rattle.lwe_core.specs.Encrypts.{DecodingLaws};
 
-use word_ring::{size_laws, wadd, wmul, word_of, wsub};
+use word_ring::{signed_laws, size_laws, wadd, wmul, word_of, wsub};
 
 /// The place of a value at a width: `value * 2^(63-width)` modulo 2^64 (Chillotti et al. 2020, the encoding of a
 /// message on the torus).
@@ -24,10 +24,10 @@ pub fn decode(phase: u64, width: u32, lo: i64) -> u32
     requires high { width ≤ 16 }
     ensures { result ≡ decoded phase width lo }
 {
+    signed_laws();
     let shift = 63 - width;
     let half = 1 << (shift - 1);
-    let least = wmul(lo.cast_unsigned(), 1 << shift);
-    (wadd(wsub(phase, least), half) >> shift) as u32
+    (wadd(wsub(phase, encode(lo, width)), half) >> shift) as u32
 }
 
 /// What a ciphertext stands for within less than half a step is what its phase decodes to (Chillotti et
@@ -37,4 +37,5 @@ pub fn decoding_laws()
     ensures { DecodingLaws }
 {
     size_laws();
+    signed_laws();
 }

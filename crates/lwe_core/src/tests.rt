@@ -135,57 +135,38 @@ fn phases_are_linear(rt: HostRuntime) -> Result<(), Fail> {
 }
 
 #[test]
-fn decodes_to_the_nearest(rt: HostRuntime) -> Result<(), Fail> {
-    // 3 with the error 1
-    assert_eq!(rt; decode(6917529027641081857, 2, 0), 3);
-    // half a step below 1, and above it
-    assert_eq!(rt;
-        (
-            decode(1152921504606846975, 2, 0),
-            decode(1152921504606846976, 2, 0)
-        ),
-        (0, 1)
-    );
-    assert_eq!(rt;
-        (
-            decode(3458764513820540927, 2, 0),
-            decode(3458764513820540928, 2, 0)
-        ),
-        (1, 2)
-    );
-    // the greatest offset, and half a step above it
-    assert_eq!(rt; decode(16140901064495857664, 2, 0), 7);
-    assert_eq!(rt;
-        (
-            decode(17293822569102704639, 2, 0),
-            decode(17293822569102704640, 2, 0)
-        ),
-        (7, 0)
-    );
-    // over a least value below 0, and above it
-    assert_eq!(rt;
-        (decode(0, 2, -1), decode(16140901064495857664, 2, -1)),
-        (1, 0)
-    );
-    assert_eq!(rt; decode(985162418487296, 16, 5), 2);
-    // the least width and the greatest
-    assert_eq!(rt;
-        (
-            decode(2305843009213693951, 1, 0),
-            decode(2305843009213693952, 1, 0)
-        ),
-        (0, 1)
-    );
-    assert_eq!(rt; decode(13835058055282163712, 1, 0), 3);
-    assert_eq!(rt;
-        (
-            decode(492581209243647, 16, 0),
-            decode(492581209243648, 16, 0)
-        ),
-        (3, 4)
-    );
-    assert_eq!(rt; decode(18446603336221196288, 16, 0), 131071);
-    Ok(())
+fn decodes_to_the_nearest(rt: HostRuntime) {
+    for (phase, width, lo, offset) in [
+        // 3 with the error 1
+        (6917529027641081857, 2, 0, 3),
+        // half a step below 1, and above it
+        (1152921504606846975, 2, 0, 0),
+        (1152921504606846976, 2, 0, 1),
+        (3458764513820540927, 2, 0, 1),
+        (3458764513820540928, 2, 0, 2),
+        // the greatest offset, and half a step above it
+        (16140901064495857664, 2, 0, 7),
+        (17293822569102704639, 2, 0, 7),
+        (17293822569102704640, 2, 0, 0),
+        // over a least value below 0, and above it
+        (0, 2, -1, 1),
+        (16140901064495857664, 2, -1, 0),
+        (985162418487296, 16, 5, 2),
+        // the least width and the greatest
+        (2305843009213693951, 1, 0, 0),
+        (2305843009213693952, 1, 0, 1),
+        (13835058055282163712, 1, 0, 3),
+        (492581209243647, 16, 0, 3),
+        (492581209243648, 16, 0, 4),
+        (18446603336221196288, 16, 0, 131071),
+    ] {
+        assert!(rt; 1 <= width && width <= 16);
+        assert_eq!(rt;
+            decode(phase, width, lo),
+            offset,
+            "{phase} at width {width} over {lo}"
+        );
+    }
 }
 
 #[test]

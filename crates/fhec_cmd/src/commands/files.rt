@@ -1,6 +1,6 @@
 //! Files that a command reads and writes.
 
-ghost use Rattle.std.specs.Prelude.{◌≡◌, ◌≤◌, ◌<◌, ◌⊎◌, length, Option, Some, None, IsErrOf};
+ghost use Rattle.std.specs.Prelude.{◌≡◌, ◌≤◌, ◌<◌, ◌⊎◌, length, Option, Some, None, All, IsErrOf};
 ghost use Rattle.port_store.specs.Files.{Files, Told, IsWritten, MayBeWritten};
 ghost use Rattle.port_store.specs.Faults.{Rises};
 ghost use Rattle.fhec_cmd.specs.Outcome.{reading};
@@ -9,6 +9,12 @@ ghost use Rattle.fhec_cmd.specs.Steps.{Gives};
 use crate::status::{LimitFault, LimitName, Status};
 use port_store::{PortFault, ReadRefusal, Store, read_whole, write_whole};
 use std::alloc::Global;
+
+/// What the bytes of a file are, for proofs alone.
+#[inline]
+pub fn known(bytes: &[u8])
+    ensures { All (λ byte. byte < 256) bytes.now }
+{}
 
 /// Reads a whole file of at most so many bytes.
 pub fn read_file<S: Store>(

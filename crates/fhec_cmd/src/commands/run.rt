@@ -8,17 +8,16 @@ ghost use Rattle.cipher_files.specs.CiphertextFile.{file_of, HasFileLimits, ciph
 ghost use Rattle.cipher_files.specs.ParamsDigest.{params_digest as digest_of_params};
 ghost use Rattle.fhec_cmd.specs.CommandLine.{run as run_request};
 ghost use Rattle.fhec_cmd.specs.CommandView.{run_view};
-ghost use Rattle.fhec_cmd.specs.Headline.{Headline};
+ghost use Rattle.fhec_cmd.specs.Headline.{Headline, HoldsBytes};
 ghost use Rattle.fhec_cmd.specs.Run.{is_input_of as input_test, circuit_in as circuit_of_text, circuit_from as circuit_of_file, inputs_in as inputs_of, output_file, run_output, run_outcome, are_input_ranges as ranges_test};
 ghost use Rattle.fhec_cmd.specs.Outside.{MayLeave};
 ghost use Rattle.fhec_cmd.specs.Steps.{Gives};
 
-use crate::commands::files::{read_file, write_file};
+use crate::commands::files::{known, read_file, write_file};
 use crate::status::{FileKind, Status};
 use crate::words::{RunNames, is_no_eval};
 use cipher_files::{
-    CipherHead, FileFault, FileRefusal, ciphertext_file_laws, params_digest, print_cipher,
-    read_cipher,
+    CipherHead, FileFault, ciphertext_file_laws, params_digest, print_cipher, read_cipher,
 };
 use circuit_file::{Circuit, Out, Range, circuit_text_laws, dimension, read_circuit};
 use circuit_run::{evaluation_laws, outputs_of};
@@ -137,7 +136,6 @@ fn circuit_from<S: Store>(alloc: Global, store: &mut S, name: &str) -> Result<Ci
     ensures files { S.files store.new ≡ S.files store.old }
     ensures never_fall { S.read_faults store.old ≤ S.read_faults store.new }
     ensures write_faults { S.write_faults store.new ≡ S.write_faults store.old }
-
     ensures rules { IfOk result IsCircuit }
 {
     let text = read_file(alloc, store, name, CIRCUIT_LIMIT)?;
@@ -156,19 +154,22 @@ fn output_from<S: Store>(
     ensures fault { S.read_faults store.old < S.read_faults store.new → IsErrOf result Status.Read ⊎ IsErrOf result Status.Memory }
     ensures files { S.files store.new ≡ S.files store.old }
     ensures write_faults { S.write_faults store.new ≡ S.write_faults store.old }
+    ensures bytes { (files : Files) → S.files store.old ≡ Some files → IfOk result (λ _. HoldsBytes files names.now.cipher.now) }
 {
     let circuit = circuit_from(alloc, store, names.circuit)?;
     if !is_no_eval(names.eval) {
         return Err(Status::Usage);
     }
     let bytes = read_file(alloc, store, names.cipher, FILE_LIMIT)?;
+    known(&bytes);
     let (head, inputs) = inputs_in(alloc, &circuit, bytes)?;
     Ok(output_of(alloc, &circuit, &head, inputs)?)
 }
 
 /// Reads CIRCUIT and CIPHER and writes OUTPUT.
 fn run_over<S: Store>(alloc: Global, store: &mut S, names: &RunNames<'_>) -> Status
-    ensures { (taken : Option Bytes) (put_faults : ℕ) → MayLeave (run_outcome (run_view names.now)) result
+    ensures bytes { (files : Files) → S.files store.old ≡ Some files → result ≡ Status.Ok → HoldsBytes files names.now.cipher.now }
+    ensures outcome { (taken : Option Bytes) (put_faults : ℕ) → MayLeave (run_outcome (run_view names.now)) result
         (record { files = S.files store.old; read_faults = S.read_faults store.old; write_faults = S.write_faults store.old; taken = taken; put_faults = put_faults })
         (record { files = S.files store.new; read_faults = S.read_faults store.new; write_faults = S.write_faults store.new; taken = taken; put_faults = put_faults }) }
 {

@@ -1,7 +1,7 @@
 use Rattle.std.proofs.Common.{◌++◌, List, ℕ, pos, get_or, ap, ◌∙◌}
 use Rattle.std.specs.String.{string_bytes}
 use Rattle.circuit_file.specs.declared.circuit.Range.{Range}
-use Rattle.circuit_file.specs.NodeLines.{input_line}
+use Rattle.circuit_file.specs.Circuit.{input_line}
 use Rattle.circuit_file.proofs.NodeLines.{inputs_more}
 use Rattle.circuit_file.proofs.printing.put_inputs.Goals as goal
 

@@ -1,7 +1,7 @@
 use Rattle.std.proofs.Common.{◌++◌, ◌+◌, List, ℕ, get_or, ap, ◌∙◌}
 use Rattle.std.specs.String.{string_bytes}
 use Rattle.circuit_file.specs.declared.circuit.WeightedSum.{WeightedSum}
-use Rattle.circuit_file.specs.NodeLines.{sum_line}
+use Rattle.circuit_file.specs.Circuit.{sum_line}
 use Rattle.circuit_file.proofs.NodeLines.{sums_more}
 use Rattle.circuit_file.proofs.printing.put_sums.Goals as goal
 

@@ -1,7 +1,9 @@
-use Rattle.std.proofs.Common.{sym, ap, ◌∙◌, Ok}
+use Rattle.std.proofs.Common.{◌<◌, All, sym, ap, subst, ◌∙◌, Ok}
 use Rattle.std.proofs.lemmas.Result.{err_from_is_err_and}
 use Rattle.fhec_cmd.specs.CommandView.{run_view}
+use Rattle.fhec_cmd.specs.Run.{file_limit}
 use Rattle.fhec_cmd.proofs.StepLemmas.{refused_wider}
+use Rattle.fhec_cmd.proofs.HeadlineLemmas.{holds_read}
 use Rattle.fhec_cmd.proofs.OutputLemmas.{refused_at_circuit, refused_at_eval, refused_at_cipher, refused_at_inputs, done_at_last, rises_later}
 use Rattle.fhec_cmd.proofs.commands.run.output_from.Goals as goal
 
@@ -30,3 +32,7 @@ pub returns-clause-told : goal.returns-clause-told
 returns-clause-told g c = λ files e.
     done_at_last (run_view c.args.names.now) files c.in_ok-circuit.circuit c.in_ok-bytes.bytes.items _ (c.in_ok-circuit.ensures.told files e) (sym c.is_no_eval.ensures ∙ c.if-not-is_no_eval.false)
     (c.in_ok-bytes.ensures.told files (c.in_ok-circuit.ensures.files ∙ e)) c.in_ok-head.ensures.inputs ∙ ap (λ bytes. Ok bytes) (sym c.in_ok-output_of.ensures)
+
+pub returns-clause-bytes : goal.returns-clause-bytes
+returns-clause-bytes g c = λ files e.
+    holds_read files c.args.names.now.cipher.now file_limit c.in_ok-bytes.bytes.items (c.in_ok-bytes.ensures.told files (c.in_ok-circuit.ensures.files ∙ e)) (subst (All (λ byte. byte < 256)) c.deref.ensures.value c.known.ensures)
