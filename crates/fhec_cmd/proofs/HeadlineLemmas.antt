@@ -24,7 +24,6 @@ use Rattle.fhec_cmd.specs.CommandLine.{RunWords, run, is_no_eval}
 use Rattle.fhec_cmd.specs.Outcome.{Outcome, ◌>>=◌, unless, found, bounded, reading, finished, outcome_from, written}
 use Rattle.fhec_cmd.specs.Outside.{Outside, MayLeave}
 use Rattle.fhec_cmd.specs.Run.{are_input_ranges, is_input_of, output_file, circuit_in, circuit_from, inputs_in, run_output, run_outcome, circuit_limit, file_limit, bad_cipher}
-use Rattle.fhec_cmd.specs.Steps.{Refuses}
 use Rattle.fhec_cmd.specs.Headline.{HoldsBytes, RunIsRight, Headline}
 use Rattle.fhec_cmd.proofs.OutputLemmas.{output_limits}
 
@@ -259,12 +258,6 @@ headline_of_run laws words (status.Limit f) earlier later may before after holds
 headline_of_run laws words status.Read earlier later may before after holds p q = tt
 headline_of_run laws words status.Write earlier later may before after holds p q = tt
 headline_of_run laws words status.Memory earlier later may before after holds p q = tt
-
--- an answer that the definition gives as a refusal is not Ok
-pub refused_not_ok : (fault : Type 0) (answer : Status) (words : RunWords) (files : Files) → Refuses fault answer (run_output words files) → answer ≡ status.Ok → ⊥
-refused_not_ok fault answer words files refuses ok =
-    let err : run_output words files ≡ Err status.Ok = subst (λ (s : Status). Refuses fault s (run_output words files)) ok refuses in
-    output_never words files (ap refusal_of err)
 
 -- the bytes that were read of a file are those that it holds
 pub holds_read : (files : Files) (name : Bytes) (most : ℕ) (read : Bytes) → reading files name most ≡ Ok read → All (λ byte. byte < 256) read → HoldsBytes files name

@@ -26,6 +26,7 @@ pub fn read_file<S: Store>(
     ensures told { (files : Files) → S.files store.old ≡ Some files → Gives (Rises (S.read_faults store.old) (S.read_faults store.new)) (λ v. v.items) result (reading files name.now most) }
     ensures untold { S.files store.old ≡ None → IsErrOf result Status.Read → Rises (S.read_faults store.old) (S.read_faults store.new) }
     ensures no_write { IsErrOf result Status.Write → ⊥ }
+    ensures no_ok { IsErrOf result Status.Ok → ⊥ }
     ensures fault { S.read_faults store.old < S.read_faults store.new → IsErrOf result Status.Read ⊎ IsErrOf result Status.Memory }
     ensures files { S.files store.new ≡ S.files store.old }
     ensures never_fall { S.read_faults store.old ≤ S.read_faults store.new }

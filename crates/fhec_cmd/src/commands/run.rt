@@ -36,6 +36,7 @@ const FILE_LIMIT: u64 = 1 << 29;
 fn circuit_in(alloc: Global, text: &[u8]) -> Result<Circuit, Status>
     ensures circuit { Gives ⊥ (λ circuit. circuit) result (circuit_of_text text.now) }
     ensures not_read { IsErrOf result Status.Read → ⊥ }
+    ensures not_ok { IsErrOf result Status.Ok → ⊥ }
     ensures rules { IfOk result IsCircuit }
 {
     Ok(read_circuit(alloc, text)?)
@@ -80,6 +81,7 @@ fn inputs_in(
     requires { IsCircuit circuit.now }
     ensures inputs { Gives ⊥ (λ read. file_of read.0 read.1.items) result (inputs_of circuit.now bytes.items) }
     ensures not_read { IsErrOf result Status.Read → ⊥ }
+    ensures not_ok { IsErrOf result Status.Ok → ⊥ }
     ensures limits { IfOk result (λ read. HasFileLimits (file_of read.0 read.1.items)) }
     ensures number { IfOk result (λ read. length read.1.items ≡ length circuit.now.inputs) }
     ensures dim { IfOk result (λ read. read.0.dim ≡ dimension_of circuit.now.params) }
@@ -132,6 +134,7 @@ fn circuit_from<S: Store>(alloc: Global, store: &mut S, name: &str) -> Result<Ci
     ensures told { (files : Files) → S.files store.old ≡ Some files → Gives (Rises (S.read_faults store.old) (S.read_faults store.new)) (λ circuit. circuit) result (circuit_of_file name.now files) }
     ensures untold { S.files store.old ≡ None → IsErrOf result Status.Read → Rises (S.read_faults store.old) (S.read_faults store.new) }
     ensures no_write { IsErrOf result Status.Write → ⊥ }
+    ensures no_ok { IsErrOf result Status.Ok → ⊥ }
     ensures fault { S.read_faults store.old < S.read_faults store.new → IsErrOf result Status.Read ⊎ IsErrOf result Status.Memory }
     ensures files { S.files store.new ≡ S.files store.old }
     ensures never_fall { S.read_faults store.old ≤ S.read_faults store.new }
@@ -151,6 +154,7 @@ fn output_from<S: Store>(
     ensures told { (files : Files) → S.files store.old ≡ Some files → Gives (Rises (S.read_faults store.old) (S.read_faults store.new)) (λ v. v.items) result (run_output (run_view names.now) files) }
     ensures untold { S.files store.old ≡ None → IsErrOf result Status.Read → Rises (S.read_faults store.old) (S.read_faults store.new) }
     ensures no_write { IsErrOf result Status.Write → ⊥ }
+    ensures no_ok { IsErrOf result Status.Ok → ⊥ }
     ensures fault { S.read_faults store.old < S.read_faults store.new → IsErrOf result Status.Read ⊎ IsErrOf result Status.Memory }
     ensures files { S.files store.new ≡ S.files store.old }
     ensures write_faults { S.write_faults store.new ≡ S.write_faults store.old }
