@@ -1,3 +1,4 @@
 pub mod EvaluationLemmas
 pub mod ClearRanges
 pub mod NodeNoise
+pub mod Examples

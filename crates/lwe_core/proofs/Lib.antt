@@ -3,3 +3,4 @@ pub mod DecodingParts
 pub mod PhaseLinear
 pub mod DecodingNear
 pub mod NoiseParts
+pub mod Examples
