@@ -1,4 +1,5 @@
 pub mod Files
+pub mod Shown
 pub mod Faults
 pub mod Refusals
 pub mod Listed

@@ -1,6 +1,6 @@
 //! A store in memory, a fake for tests.
 
-ghost use Rattle.std.specs.Prelude.{◌≡◌, ◌++◌, List, ◌∷◌, [], length, ◌≤◌, if◌then◌else◌, Option, Some, IfOk, IfErr, OnOk, OnErr, IsErrOf, is_some, is_ok};
+ghost use Rattle.std.specs.Prelude.{◌≡◌, ◌++◌, List, ◌∷◌, [], length, ◌≤◌, if◌then◌else◌, Option, Some, None, IfOk, IfErr, OnOk, OnErr, IsErrOf, is_some, is_ok};
 ghost use Rattle.std.specs.Option.{option_copied};
 ghost use Rattle.std.specs.FinMap as map;
 ghost use Rattle.port_store.specs.Files.{Told, MayHold, IsMissing, OfFile, Copies, IsCreated, MayBeCreated, IsAppended, MayBeAppended};
@@ -117,6 +117,8 @@ impl MemStore {
 
 impl Store for MemStore {
     ghost files = { λ s. Some s.files };
+
+    ghost shown = { λ _. None };
 
     ghost read_faults = { λ s. s.read_faults };
 

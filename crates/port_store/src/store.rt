@@ -1,8 +1,9 @@
 //! A store of files.
 
-ghost use Rattle.std.specs.Prelude.{◌≡◌, ◌≤◌, ℕ, length, Option, IfOk, OnOk, OnErr, IsErrOf};
+ghost use Rattle.std.specs.Prelude.{◌≡◌, ◌≤◌, ℕ, length, List, Option, Some, IfOk, OnOk, OnErr, IsErrOf};
 ghost use Rattle.port_store.specs.Files.{Files, Told, MayHold, IsMissing, OfFile, Copies, IsCreated, MayBeCreated, IsAppended, MayBeAppended};
 ghost use Rattle.port_store.specs.Faults.{Rises};
+ghost use Rattle.port_store.specs.Shown.{Shown, after_size, after_read_at};
 
 use crate::fault::PortFault;
 
@@ -13,6 +14,9 @@ use crate::fault::PortFault;
 pub trait Store {
     /// The files, where the store tells them.
     ghost files: { Self → Option Files };
+
+    /// What `size` and `read_at` have shown so far, the newest first, where the store keeps account of it.
+    ghost shown: { Self → Option (List Shown) };
 
     /// The faults of `size` and `read_at` so far.
     ghost read_faults: { Self → ℕ };
@@ -26,6 +30,7 @@ pub trait Store {
         ensures never_fall { read_faults self.old ≤ read_faults self.new }
         ensures no_write { write_faults self.new ≡ write_faults self.old }
         ensures size { IfOk result (λ size. OfFile (files self.old) name.now (λ bytes. size ≡ length bytes)) }
+        ensures account { (account : List Shown) → shown self.old ≡ Some account → shown self.new ≡ Some (after_size name.now result account) }
         ensures ok { OnOk result (read_faults self.new ≡ read_faults self.old) }
         ensures failed { IsErrOf result PortFault.Failed → MayHold (files self.old) name.now → Rises (read_faults self.old) (read_faults self.new) }
         ensures missing { IsMissing (files self.old) name.now → read_faults self.new ≡ read_faults self.old };
@@ -38,6 +43,7 @@ pub trait Store {
         ensures no_write { write_faults self.new ≡ write_faults self.old }
         ensures room { IfOk result (λ count. count ≤ length buffer.old) }
         ensures copied { IfOk result (λ count. OfFile (files self.old) name.now (λ bytes. Copies bytes at buffer.new count)) }
+        ensures account { (account : List Shown) → shown self.old ≡ Some account → shown self.new ≡ Some (after_read_at name.now at buffer.new result account) }
         ensures ok { OnOk result (read_faults self.new ≡ read_faults self.old) }
         ensures failed { IsErrOf result PortFault.Failed → MayHold (files self.old) name.now → Rises (read_faults self.old) (read_faults self.new) }
         ensures missing { IsMissing (files self.old) name.now → read_faults self.new ≡ read_faults self.old };
@@ -46,6 +52,7 @@ pub trait Store {
     fn create(&mut self, name: &str) -> Result<(), PortFault>
         ensures never_fall { write_faults self.old ≤ write_faults self.new }
         ensures no_read { read_faults self.new ≡ read_faults self.old }
+        ensures account { shown self.new ≡ shown self.old }
         ensures created { OnOk result (Told (IsCreated name.now) (files self.old) (files self.new)) }
         ensures ok { OnOk result (write_faults self.new ≡ write_faults self.old) }
         ensures err { OnErr result (Told (MayBeCreated name.now) (files self.old) (files self.new)) }
@@ -56,6 +63,7 @@ pub trait Store {
     fn append(&mut self, name: &str, bytes: &[u8]) -> Result<(), PortFault>
         ensures never_fall { write_faults self.old ≤ write_faults self.new }
         ensures no_read { read_faults self.new ≡ read_faults self.old }
+        ensures account { shown self.new ≡ shown self.old }
         ensures appended { OnOk result (Told (IsAppended name.now bytes.now) (files self.old) (files self.new)) }
         ensures ok { OnOk result (write_faults self.new ≡ write_faults self.old) }
         ensures err { OnErr result (Told (MayBeAppended name.now bytes.now) (files self.old) (files self.new)) }

@@ -1,9 +1,10 @@
 //! A whole file at once, read under a limit and written in pieces.
 
-ghost use Rattle.std.specs.Prelude.{◌≡◌, ◌≤◌, ◌<◌, ℕ, length, take, vec_len, Option, IfOk, OnOk, OnErr, IsErrOf};
+ghost use Rattle.std.specs.Prelude.{◌≡◌, ◌≤◌, ◌<◌, ℕ, length, take, vec_len, List, ◌∷◌, Option, Some, IfOk, OnOk, OnErr, IsErrOf};
 ghost use Rattle.port_store.specs.Files.{Told, MayHold, IsMissing, OfFile, IsWritten, MayBeWritten};
 ghost use Rattle.port_store.specs.Faults.{Rises};
 ghost use Rattle.port_store.specs.Refusals.{IfAbove};
+ghost use Rattle.port_store.specs.Shown.{Shown, whole, sized};
 
 use crate::fault::{PortFault, ReadRefusal};
 use crate::store::Store;
@@ -25,6 +26,11 @@ pub fn read_whole<S: Store>(
     ensures within { IfOk result (λ v. vec_len v ≤ limit) }
     ensures above { IfAbove result (λ size. limit < size) }
     ensures size { IfAbove result (λ size. OfFile (S.files store.old) name.now (λ bytes. size ≡ length bytes)) }
+
+    // On every store that keeps account of what its calls gave, the bytes are those that `read_at` gave, in order.
+    ensures shown { IfOk result (λ v. (account : List Shown) → S.shown store.old ≡ Some account → S.shown store.new ≡ Some (whole name.now v.items ∷ account)) }
+    ensures sized { IfAbove result (λ size. (account : List Shown) → S.shown store.old ≡ Some account → S.shown store.new ≡ Some (sized name.now size ∷ account)) }
+    ensures unseen { IsMissing (S.files store.old) name.now → (account : List Shown) → S.shown store.old ≡ Some account → S.shown store.new ≡ Some account }
 
     // When a call failed, and what the counts say of it.
     ensures ok { OnOk result (S.read_faults store.new ≡ S.read_faults store.old) }
@@ -64,6 +70,7 @@ fn fill<S: Store>(store: &mut S, name: &str, buffer: &mut [u8]) -> Result<usize,
 
     ensures content { IfOk result (λ count. OfFile (S.files store.old) name.now (λ bytes. take count buffer.new ≡ take (length buffer.old) bytes)) }
     ensures room { IfOk result (λ count. count ≤ length buffer.old) }
+    ensures shown { IfOk result (λ count. (account : List Shown) → S.shown store.old ≡ Some (sized name.now (length buffer.old) ∷ account) → S.shown store.new ≡ Some (whole name.now (take count buffer.new) ∷ account)) }
     ensures ok { OnOk result (S.read_faults store.new ≡ S.read_faults store.old) }
     ensures failed { IsErrOf result PortFault.Failed → Rises (S.read_faults store.old) (S.read_faults store.new) }
     ensures files { S.files store.new ≡ S.files store.old }
