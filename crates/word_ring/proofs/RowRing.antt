@@ -1,10 +1,10 @@
 -- Rows of words are a module over the words.
-use Rattle.std.proofs.Common.{◌≡◌, ℕ, ◌+◌, ◌-◌, ◌*◌, ◌%◌, ◌^◌, ◌<◌, ◌≤◌, List, [], ◌∷◌, ◌++◌, length, map, replicate, arith, ap, sym, ◌∙◌, refl}
-use Rattle.std.specs.List.{All, zip}
+use Rattle.std.proofs.Common.{◌≡◌, ℕ, ◌+◌, ◌*◌, ◌%◌, ◌^◌, ◌<◌, List, [], ◌∷◌, ◌++◌, length, map, replicate, arith, ap, sym, ◌∙◌, refl}
+use Rattle.std.specs.List.{All}
 use Rattle.std.proofs.lemmas.Nat.{mod_below, pow_pos}
 use Rattle.std.proofs.lemmas.List.Elements.{All-nil, All-cons, All-head, All-tail}
-use Rattle.word_ring.specs.Words.{IsWord, word_sum, word_difference, word_product, word_negation, RingLaws}
-use Rattle.word_ring.specs.Rows.{zip_words, row_sum, row_difference, scaled_row, sum_with_scaled}
+use Rattle.word_ring.specs.Words.{IsWord, word_sum, word_difference, word_product, word_negation}
+use Rattle.word_ring.specs.Rows.{zip_words, row_sum, row_difference}
 use Rattle.word_ring.specs.RowLaws.{RowRingLaws}
 use Rattle.word_ring.proofs.WordLaws.{ring}
 

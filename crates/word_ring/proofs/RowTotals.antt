@@ -1,13 +1,13 @@
 -- The sizes of the words of rows, and sums of many rows.
-use Rattle.std.proofs.Common.{◌≡◌, ℕ, zero, suc, ◌+◌, ◌*◌, ◌%◌, ◌^◌, ◌<◌, ◌≤◌, min, List, [], ◌∷◌, ◌++◌, length, get_or, map, replicate, arith, ap, sym, subst, ◌∙◌, refl, add_assoc, zero-mul}
+use Rattle.std.proofs.Common.{◌≡◌, ℕ, zero, suc, ◌+◌, ◌*◌, ◌%◌, ◌^◌, ◌<◌, ◌≤◌, List, [], ◌∷◌, ◌++◌, length, get_or, map, replicate, arith, ap, sym, subst, ◌∙◌, refl}
 use Rattle.std.proofs.Math.Nat.{add-mul, mul-le-mul_left}
 use Rattle.std.specs.List.{All, zip, sum_by, enumerate_from}
 use Rattle.std.proofs.lemmas.Nat.{mul-le}
 use Rattle.std.proofs.lemmas.List.{length-replicate, get_or-replicate, same_lists}
-use Rattle.std.proofs.lemmas.List.Elements.{All-nil, All-cons, All-head, All-tail, All-replicate, All-map, All-weaker}
+use Rattle.std.proofs.lemmas.List.Elements.{All-head, All-tail, All-replicate, All-map, All-weaker}
 use Rattle.std.proofs.lemmas.List.Sums.{sum_by-cons, sum_by-le, sum_by-append}
 use Rattle.word_ring.specs.Words.{IsWord, word_sum, word_difference, word_product, size}
-use Rattle.word_ring.specs.Rows.{zip_words, row_sum, row_difference, scaled_row, scaled_rows, sum_with_scaled, weighted_sum, combined, sum_of_rows, zip_rows, AllOfLength, RowWithin, IsAdditive}
+use Rattle.word_ring.specs.Rows.{zip_words, row_sum, scaled_row, scaled_rows, weighted_sum, combined, sum_of_rows, zip_rows, AllOfLength, RowWithin, IsAdditive}
 use Rattle.word_ring.specs.RowLaws.{RowSizeLaws, RowTotalLaws, CombinedLaws}
 use Rattle.word_ring.proofs.WordLaws.{sizes}
 use Rattle.word_ring.proofs.RowLaws.{length-zip_words, get_or-zip_words, length-combined, get_or-combined, combined-first}
