@@ -3,8 +3,8 @@ use Rattle.std.proofs.Common.{◌≡◌, ℕ, zero, suc, ◌+◌, ◌*◌, ◌%�
 use Rattle.std.proofs.Math.Nat.{add-mul, mul-le-mul_left}
 use Rattle.std.specs.List.{All, zip, sum_by, enumerate_from}
 use Rattle.std.proofs.lemmas.Nat.{mul-le}
-use Rattle.std.proofs.lemmas.List.{length-replicate, get_or-replicate, same_lists}
-use Rattle.std.proofs.lemmas.List.Elements.{All-head, All-tail, All-replicate, All-map, All-weaker}
+use Rattle.std.proofs.lemmas.List.{length-map, length-replicate, get_or-replicate, same_lists}
+use Rattle.std.proofs.lemmas.List.Elements.{All-nil, All-cons, All-head, All-tail, All-replicate, All-map, All-weaker}
 use Rattle.std.proofs.lemmas.List.Sums.{sum_by-cons, sum_by-le, sum_by-append}
 use Rattle.word_ring.specs.Words.{IsWord, word_sum, word_difference, word_product, size}
 use Rattle.word_ring.specs.Rows.{zip_words, row_sum, scaled_row, scaled_rows, weighted_sum, combined, sum_of_rows, zip_rows, AllOfLength, RowWithin, IsAdditive}
@@ -142,8 +142,18 @@ total_within len bound (row ∷ rows) within =
     subst (λ most. RowWithin most (sum_of_rows len (row ∷ rows))) (omega arith)
     (row_sizes.sum_within bound (length rows * bound) row (sum_of_rows len rows) (All-head (RowWithin bound) row rows within) rest)
 
+-- scaled rows are as long as the rows
+scaled_lengths : (len : ℕ) (weights : List ℕ) (rows : List (List ℕ)) → AllOfLength len rows → AllOfLength len (scaled_rows weights rows)
+scaled_lengths len [] rows long = All-nil (λ r. length r ≡ len)
+scaled_lengths len (w ∷ weights) [] long = All-nil (λ r. length r ≡ len)
+scaled_lengths len (w ∷ weights) (row ∷ rows) long =
+    All-cons (λ r. length r ≡ len) (scaled_row w row) (scaled_rows weights rows)
+    (length-map row (word_product w) ∙ All-head (λ r. length r ≡ len) row rows long)
+    (scaled_lengths len weights rows (All-tail (λ r. length r ≡ len) row rows long))
+
 pub row_totals : RowTotalLaws
 row_totals = record {
+  scaled_lengths = scaled_lengths;
   total_length = total_length;
   total_words = total_words;
   total_word = total_word;
@@ -206,9 +216,20 @@ combined_is into (w ∷ weights) (row ∷ rows) long =
     ∙ row_ring.sum_associative into rest (scaled_row w row)
     ∙ ap (row_sum into) (row_ring.sum_commutative rest (scaled_row w row))
 
+-- from 0 it is the sum of the scaled rows
+combined_from_zero : (len : ℕ) (weights : List ℕ) (rows : List (List ℕ)) → AllOfLength len rows → combined (replicate len 0) weights rows ≡ sum_of_rows len (scaled_rows weights rows)
+combined_from_zero len weights rows long =
+    let zeros_long = length-replicate {A = ℕ} len 0 in
+    let scaled : AllOfLength len (scaled_rows weights rows) = scaled_lengths len weights rows long in
+    combined_is (replicate len 0) weights rows (subst (λ n. AllOfLength n rows) (sym zeros_long) long)
+    ∙ ap (λ n. row_sum (replicate len 0) (sum_of_rows n (scaled_rows weights rows))) zeros_long
+    ∙ zero_sum len (sum_of_rows len (scaled_rows weights rows)) (total_length len (scaled_rows weights rows) scaled) (total_words len (scaled_rows weights rows))
+
 pub weighted : CombinedLaws
 weighted = record {
   combined_words = λ into weights rows. map-all IsWord _ (enumerate_from 0 into) (λ p. word_below (p.1 + weighted_sum weights rows p.0));
   combined_append = combined_append;
+  combined_word = λ into weights rows i inside. get_or-combined into weights rows i 0 inside;
   combined_is = combined_is;
+  combined_from_zero = combined_from_zero;
 }

@@ -1,8 +1,8 @@
 -- What holds of rows: a module over the words, the sums of many rows, and the sizes of their words.
 use Rattle.std.specs.Prelude.{◌≡◌, ℕ, ◌+◌, ◌*◌, ◌%◌, ◌^◌, ◌<◌, ◌≤◌, List, [], ◌∷◌, ◌++◌, All, length, map, replicate, slice_index}
 use Rattle.std.specs.List.{zip, sum_by}
-use Rattle.word_ring.specs.Words.{IsWord, word_product, word_negation, size}
-use Rattle.word_ring.specs.Rows.{zip_words, row_sum, row_difference, scaled_row, scaled_rows, sum_with_scaled, combined, sum_of_rows, zip_rows, IsAdditive, AllOfLength, RowWithin}
+use Rattle.word_ring.specs.Words.{IsWord, word_sum, word_product, word_negation, size}
+use Rattle.word_ring.specs.Rows.{zip_words, row_sum, row_difference, scaled_row, scaled_rows, sum_with_scaled, weighted_sum, combined, sum_of_rows, zip_rows, IsAdditive, AllOfLength, RowWithin}
 
 -- rows of words are a module over the words
 pub record RowRingLaws : Type 0 where
@@ -84,6 +84,10 @@ pub record RowSizeLaws : Type 0 where
 
 -- sums of many rows
 pub record RowTotalLaws : Type 0 where
+  -- scaled rows are as long as the rows
+  pub scaled_lengths :
+      (len : ℕ) (weights : List ℕ) (rows : List (List ℕ)) → AllOfLength len rows
+      → AllOfLength len (scaled_rows weights rows)
   -- the sum of rows of one length has that length
   pub total_length : (len : ℕ) (rows : List (List ℕ)) → AllOfLength len rows → length (sum_of_rows len rows) ≡ len
   -- it is a row of words
@@ -128,7 +132,15 @@ pub record CombinedLaws : Type 0 where
   pub combined_append :
       (into weights others : List ℕ) (rows further : List (List ℕ)) → length weights ≡ length rows
       → combined into (weights ++ others) (rows ++ further) ≡ combined (combined into weights rows) others further
+  -- each of its words is that of the row that it starts from and the weighted sum at its place
+  pub combined_word :
+      (into weights : List ℕ) (rows : List (List ℕ)) (i : ℕ) → i < length into
+      → slice_index (combined into weights rows) i ≡ word_sum (slice_index into i) (weighted_sum weights rows i)
   -- it is the row that it starts from and the sum of the scaled rows
   pub combined_is :
       (into weights : List ℕ) (rows : List (List ℕ)) → AllOfLength (length into) rows
       → combined into weights rows ≡ row_sum into (sum_of_rows (length into) (scaled_rows weights rows))
+  -- so from 0 it is that sum
+  pub combined_from_zero :
+      (len : ℕ) (weights : List ℕ) (rows : List (List ℕ)) → AllOfLength len rows
+      → combined (replicate len 0) weights rows ≡ sum_of_rows len (scaled_rows weights rows)
