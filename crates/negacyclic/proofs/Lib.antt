@@ -3,6 +3,7 @@ pub mod Signs
 pub mod Coefficients
 pub mod Polynomials
 pub mod Rotations
+pub mod RotatedProducts
 pub mod Sizes
 pub mod ProductLoops
 mod Examples

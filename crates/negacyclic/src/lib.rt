@@ -5,7 +5,7 @@
 //! Nothing but the two constructors takes memory.
 #![tactic(auto)]
 
-mod laws;
+pub mod laws;
 mod poly;
 mod product;
 #[cfg(test)]
