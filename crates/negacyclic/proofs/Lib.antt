@@ -7,3 +7,7 @@ pub mod RotatedProducts
 pub mod Sizes
 pub mod ProductLoops
 mod Examples
+pub mod Pairs
+pub mod Joins
+pub mod Halves
+pub mod Powers
