@@ -228,7 +228,7 @@ right laws words before after output f holds put =
         held = ap (λ files. get files words.output) put ∙ get_put before words.output output ∙ ap (λ z. Some z) (sym f.spelled);
         spelled = laws.again outputs is_file;
       };
-      right = λ big small values good. laws.evaluation.outputs_right f.circuit big small values rows rules.0 long good;
+      right = λ big small values good. laws.evaluation.outputs_right f.circuit big small values rows rules.0 good;
     }
 
 -- the outcome of a run whose output is this

@@ -2,3 +2,4 @@ pub mod Places
 pub mod Decompositions
 pub mod DigitSizes
 pub mod Machine
+pub mod Polynomials

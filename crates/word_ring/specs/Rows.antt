@@ -1,7 +1,7 @@
 -- Rows: lists of words, on which the ring's operations go word by word.
-use Rattle.std.specs.Prelude.{◌≡◌, ℕ, ◌+◌, ◌*◌, ◌%◌, ◌^◌, ◌<◌, min, List, [], ◌∷◌, All, length, map, slice_index}
+use Rattle.std.specs.Prelude.{◌≡◌, ℕ, ◌+◌, ◌*◌, ◌%◌, ◌^◌, ◌<◌, min, List, [], ◌∷◌, ◌≤◌, All, length, map, replicate, slice_index}
 use Rattle.std.specs.List.{zip, sum_by, enumerate_from, slice_index_or}
-use Rattle.word_ring.specs.Words.{IsWord, word_sum, word_difference, word_product}
+use Rattle.word_ring.specs.Words.{IsWord, word_sum, word_difference, word_product, size}
 
 -- an operation at each place of two rows
 abbrev pub zip_words : (ℕ → ℕ → ℕ) → List ℕ → List ℕ → List ℕ
@@ -30,6 +30,32 @@ weighted_sum weights rows i = sum_by (λ p. p.0 * slice_index p.1 i) (zip weight
 -- at each place the word of `into` and the weighted sum of the rows, reduced once
 abbrev pub combined : List ℕ → List ℕ → List (List ℕ) → List ℕ
 combined into weights rows = map (λ p. (p.1 + weighted_sum weights rows p.0) % 2 ^ 64) (enumerate_from 0 into)
+
+-- the sum of rows of `len` words each, word by word; that of no row is 0
+abbrev pub sum_of_rows : ℕ → List (List ℕ) → List ℕ
+sum_of_rows len [] = replicate len 0
+sum_of_rows len (row ∷ rows) = row_sum row (sum_of_rows len rows)
+
+-- the rows, each times its weight
+abbrev pub scaled_rows : List ℕ → List (List ℕ) → List (List ℕ)
+scaled_rows weights rows = map (λ p. scaled_row p.0 p.1) (zip weights rows)
+
+-- an operation on rows, pair by pair
+abbrev pub zip_rows : (List ℕ → List ℕ → List ℕ) → List (List ℕ) → List (List ℕ) → List (List ℕ)
+zip_rows operation rows others = map (λ p. operation p.0 p.1) (zip rows others)
+
+-- a function from rows of `len` words to rows of `other` words that keeps 0 and sums
+pub record IsAdditive (len other : ℕ) (f : List ℕ → List ℕ) : Type 0 where
+  pub keeps_zero : f (replicate len 0) ≡ replicate other 0
+  pub keeps_sums : (xs ys : List ℕ) → length xs ≡ len → length ys ≡ len → f (row_sum xs ys) ≡ row_sum (f xs) (f ys)
+
+-- the rows have `len` words each
+abbrev pub AllOfLength : ℕ → List (List ℕ) → Type 0
+AllOfLength len rows = All (λ row. length row ≡ len) rows
+
+-- a row whose words are no larger than a bound
+abbrev pub RowWithin : ℕ → List ℕ → Type 0
+RowWithin bound row = All (λ w. size w ≤ bound) row
 
 -- the words of the values at these places
 abbrev pub rows_at : {T : Type 0} → (T → List ℕ) → List T → List ℕ → List (List ℕ)
