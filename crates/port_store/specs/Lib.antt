@@ -6,3 +6,4 @@ pub mod Listed
 pub mod Memory
 pub mod Kept
 pub mod Collected
+pub mod Laws
