@@ -1,6 +1,6 @@
 //! Reading and spelling a file.
 
-ghost use Rattle.std.specs.Prelude.{◌≡◌, ℕ, ◌+◌, ◌<◌, List, length, Some};
+ghost use Rattle.std.specs.Prelude.{◌≡◌, ℕ, ◌+◌, ◌<◌, List, length, Ok};
 ghost use Rattle.std.specs.List.{All};
 ghost use Rattle.cipher_files.specs.CiphertextFile.{CiphertextFile, IsCiphertextFile, ciphertext_bytes};
 ghost use Rattle.cipher_files.specs.CiphertextReading.{ciphertext_file_of};
@@ -12,12 +12,12 @@ use word_ring::signed_laws;
 pub fn ciphertext_file_laws()
     // What is read is a file that is spelled so, each byte of it.
     ensures read { (bytes : List ℕ) (file : CiphertextFile) → All (λ byte. byte < 256) bytes
-        → ciphertext_file_of bytes ≡ Some file → IsCiphertextFile file × (bytes ≡ ciphertext_bytes file) }
+        → ciphertext_file_of bytes ≡ Ok file → IsCiphertextFile file × (bytes ≡ ciphertext_bytes file) }
     // Whatever the bytes are, each ciphertext that is read has the file's dimension.
-    ensures lengths { (bytes : List ℕ) (file : CiphertextFile) → ciphertext_file_of bytes ≡ Some file
+    ensures lengths { (bytes : List ℕ) (file : CiphertextFile) → ciphertext_file_of bytes ≡ Ok file
         → All (λ words. length words ≡ file.dim + 1) file.ciphertexts }
     // What is spelled so is read.
-    ensures spelled { (file : CiphertextFile) → IsCiphertextFile file → ciphertext_file_of (ciphertext_bytes file) ≡ Some file }
+    ensures spelled { (file : CiphertextFile) → IsCiphertextFile file → ciphertext_file_of (ciphertext_bytes file) ≡ Ok file }
 {
     signed_laws();
 }

@@ -19,7 +19,7 @@ mod printing;
 mod reading;
 
 pub use digest::params_digest;
-pub use fault::{FileFault, FileRefusal};
+pub use fault::FileFault;
 pub use head::CipherHead;
 pub use laws::ciphertext_file_laws;
 pub use printing::print_cipher;

@@ -1,16 +1,18 @@
 //! Reading the bytes of a file, check by check.
 
-ghost use Rattle.std.specs.Prelude.{◌≡◌, ◌+◌, ◌*◌, ◌/◌, ◌<◌, ◌≤◌, ◌^◌, length, take, drop, IfOk};
+ghost use Rattle.std.specs.Prelude.{◌≡◌, ◌+◌, ◌*◌, ◌/◌, ◌<◌, ◌≤◌, ◌^◌, length, take, drop, IsTrue, IfOk, OnOk};
 ghost use Rattle.std.specs.Simd.{first_chunks};
 ghost use Rattle.cipher_files.specs.CiphertextFile.{IsCiphertextFile, file_of};
-ghost use Rattle.cipher_files.specs.CiphertextReading.{Gives, word_at, number_within, counts_of, is_sealed, range_of, ranges_of, words_of, ciphertexts_of, ciphertext_file_of};
+ghost use Rattle.refusals.specs.Reading.{Gives};
+ghost use Rattle.cipher_files.specs.CiphertextReading.{check, word_in, number_within, counts_of, is_sealed, range_of, ranges_of, words_of, ciphertexts_of, ciphertext_file_of};
 
 use crate::MAGIC;
-use crate::fault::{FileFault, FileRefusal};
+use crate::fault::FileFault;
 use crate::head::CipherHead;
 use circuit_file::is_input_range;
 use lists::List;
 use lwe_core::{Big, Lwe};
+use refusals::{Refusal, unless};
 use sha2::{Digest, Sha256};
 use std::alloc::{AllocError, Global};
 use word_ring::{centred, signed_laws};
@@ -23,10 +25,18 @@ struct Counts {
     number: u32,
 }
 
-#[tactic(auto, unfolding(crate::specs::CiphertextReading::word_in))]
-fn word_at(bytes: &[u8], place: usize) -> u64
+/// Goes on only where the test holds.
+fn check(test: bool) -> Result<(), Refusal<FileFault>>
+    ensures exact { Gives (λ x. x) result (check test) }
+    ensures held { OnOk result (IsTrue test) }
+{
+    unless(test, FileFault::Later)
+}
+
+#[tactic(auto, unfolding(crate::specs::CiphertextReading::word_of_bytes))]
+fn word_in(bytes: &[u8], place: usize) -> u64
     requires { place + 8 ≤ length bytes.now }
-    ensures { result ≡ word_at place bytes.now }
+    ensures { result ≡ word_in place bytes.now }
 {
     let word = &bytes[place..place + 8];
     u64::from_le_bytes([
@@ -35,34 +45,29 @@ fn word_at(bytes: &[u8], place: usize) -> u64
 }
 
 #[tactic(auto, unfolding(crate::specs::CiphertextReading::number_within))]
-fn number_within(least: u64, most: u64, number: u64) -> Result<u32, FileRefusal>
+fn number_within(least: u64, most: u64, number: u64) -> Result<u32, Refusal<FileFault>>
     requires { most < 2 ^ 32 }
     ensures read { Gives (λ number. number) result (number_within least most number) }
     ensures limit { IfOk result (λ number. number ≤ most) }
 {
-    if number < least || most < number {
-        return Err(FileRefusal::Fault(FileFault::Later));
-    }
+    check(least <= number && number <= most)?;
     Ok(number as u32)
 }
 
 #[tactic(auto, unfolding(crate::specs::CiphertextReading::counts_of))]
-fn counts_of(bytes: &[u8]) -> Result<Counts, FileRefusal>
+fn counts_of(bytes: &[u8]) -> Result<Counts, Refusal<FileFault>>
     ensures read { Gives (λ counts. (counts.dim, counts.width, counts.number)) result (counts_of bytes.now) }
     ensures dim { IfOk result (λ counts. counts.dim ≤ 24576) }
     ensures number { IfOk result (λ counts. counts.number ≤ 64) }
     ensures len { IfOk result (λ counts. length bytes.now ≡ 96 + 16 * counts.number + counts.number * (8 * (counts.dim + 1))) }
 {
-    if bytes.len() < 96 || &bytes[..8] != MAGIC.as_slice() {
-        return Err(FileRefusal::Fault(FileFault::Later));
-    }
-    let dim = number_within(1, 24576, word_at(bytes, 40))?;
-    let width = number_within(1, 16, word_at(bytes, 48))?;
-    let number = number_within(0, 64, word_at(bytes, 56))?;
+    check(bytes.len() >= 96)?;
+    check(&bytes[..8] == MAGIC.as_slice())?;
+    let dim = number_within(1, 24576, word_in(bytes, 40))?;
+    let width = number_within(1, 16, word_in(bytes, 48))?;
+    let number = number_within(0, 64, word_in(bytes, 56))?;
     let many = number as usize;
-    if bytes.len() != 96 + 16 * many + many * (8 * (dim as usize + 1)) {
-        return Err(FileRefusal::Fault(FileFault::Later));
-    }
+    check(bytes.len() == 96 + 16 * many + many * (8 * (dim as usize + 1)))?;
     Ok(Counts { dim, width, number })
 }
 
@@ -76,15 +81,13 @@ fn is_sealed(bytes: &[u8]) -> bool
 }
 
 #[tactic(auto, unfolding(crate::specs::CiphertextReading::range_of))]
-fn range_of(bytes: &[u8]) -> Result<(i64, i64), FileRefusal>
+fn range_of(bytes: &[u8]) -> Result<(i64, i64), Refusal<FileFault>>
     requires { 16 ≤ length bytes.now }
     ensures { Gives (λ range. range) result (range_of bytes.now) }
 {
-    let low = centred(word_at(bytes, 0));
-    let high = centred(word_at(bytes, 8));
-    if !is_input_range(low, high) {
-        return Err(FileRefusal::Fault(FileFault::Later));
-    }
+    let low = centred(word_in(bytes, 0));
+    let high = centred(word_in(bytes, 8));
+    check(is_input_range(low, high))?;
     Ok((low, high))
 }
 
@@ -97,7 +100,11 @@ fn digest_of(bytes: &[u8]) -> [u8; 32]
     digest
 }
 
-fn ranges_of(alloc: Global, number: usize, bytes: &[u8]) -> Result<Vec<(i64, i64)>, FileRefusal>
+fn ranges_of(
+    alloc: Global,
+    number: usize,
+    bytes: &[u8],
+) -> Result<Vec<(i64, i64)>, Refusal<FileFault>>
     requires { 16 * number ≤ length bytes.now }
     ensures { Gives (λ ranges. ranges.items) result (ranges_of (first_chunks 16 number bytes.now)) }
 {
@@ -111,7 +118,7 @@ fn ranges_of(alloc: Global, number: usize, bytes: &[u8]) -> Result<Vec<(i64, i64
     Ok(ranges)
 }
 
-#[tactic(auto, unfolding(crate::specs::CiphertextReading::word_in))]
+#[tactic(auto, unfolding(crate::specs::CiphertextReading::word_of_bytes))]
 fn words_of(alloc: Global, bytes: &[u8]) -> Result<Vec<u64>, AllocError>
     ensures { IfOk result (λ words. words.items ≡ words_of (length bytes.now / 8) bytes.now) }
 {
@@ -145,13 +152,11 @@ fn ciphertexts_of(
 }
 
 #[tactic(auto, unfolding(crate::specs::CiphertextReading::ciphertext_file_of))]
-fn file_in(alloc: Global, bytes: &[u8]) -> Result<(CipherHead, Vec<Lwe<Big>>), FileRefusal>
+fn file_in(alloc: Global, bytes: &[u8]) -> Result<(CipherHead, Vec<Lwe<Big>>), Refusal<FileFault>>
     ensures { Gives (λ read. file_of read.0 read.1.items) result (ciphertext_file_of bytes.now) }
 {
     let counts = counts_of(bytes)?;
-    if !is_sealed(bytes) {
-        return Err(FileRefusal::Fault(FileFault::Later));
-    }
+    check(is_sealed(bytes))?;
     let number = counts.number as usize;
     let ranges = ranges_of(alloc, number, &bytes[64..])?;
     let list = ciphertexts_of(
@@ -173,7 +178,10 @@ fn file_in(alloc: Global, bytes: &[u8]) -> Result<(CipherHead, Vec<Lwe<Big>>), F
 ///
 /// A fault means that the bytes spell no file. The seal is checked before any memory is taken, and the
 /// ranges before there is any for the words.
-pub fn read_cipher(alloc: Global, bytes: &[u8]) -> Result<(CipherHead, Vec<Lwe<Big>>), FileRefusal>
+pub fn read_cipher(
+    alloc: Global,
+    bytes: &[u8],
+) -> Result<(CipherHead, Vec<Lwe<Big>>), Refusal<FileFault>>
     ensures exact { Gives (λ read. file_of read.0 read.1.items) result (ciphertext_file_of bytes.now) }
     // So it can be printed again.
     ensures valid { IfOk result (λ read. IsCiphertextFile (file_of read.0 read.1.items)) }

@@ -1,4 +1,5 @@
 use super::*;
+use refusals::Refusal;
 use sha2::{Digest, Sha256};
 use std::alloc::{AllocError, Global};
 use std::test::Fail;
@@ -182,7 +183,7 @@ fn broken_seals(rt: HostRuntime) -> Result<(), Fail> {
         assert!(rt;
             matches!(
                 read_cipher(rt.alloc(), &bytes),
-                Err(FileRefusal::Fault(FileFault::Later))
+                Err(Refusal::Fault(FileFault::Later))
             )
         );
     }

@@ -4,4 +4,3 @@ pub mod Numbers
 pub mod Circuit
 pub mod CircuitReading
 pub mod CircuitLaws
-pub mod Refusal

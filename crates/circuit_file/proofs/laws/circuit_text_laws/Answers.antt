@@ -1,5 +1,5 @@
 use Rattle.circuit_file.proofs.CircuitWhole.{circuit_taken, circuit_again}
-use Rattle.circuit_file.proofs.circuit_text_laws.Goals as goal
+use Rattle.circuit_file.proofs.laws.circuit_text_laws.Goals as goal
 
 pub returns-clause-read : goal.returns-clause-read
 returns-clause-read c = circuit_taken

@@ -1,10 +1,9 @@
-use Rattle.std.proofs.Common.{◌≡◌, ◌≤◌, ℕ, length, Some, arith, ap, sym, ◌∙◌, subst}
-use Rattle.std.specs.Prelude.{option_map}
+use Rattle.std.proofs.Common.{◌≡◌, ◌≤◌, ℕ, length, Ok, arith, sym, ◌∙◌, subst}
 use Rattle.circuit_file.specs.declared.circuit.Circuit.{Circuit}
 use Rattle.circuit_file.specs.CircuitReading.{sums_at, KeepsLimits}
 use Rattle.circuit_file.proofs.CircuitWhole.{AreRead, limits_read, few_inputs}
 use Rattle.circuit_file.proofs.ResultRules.{results_rules}
-use Rattle.circuit_file.proofs.circuit_in.Goals as goal
+use Rattle.circuit_file.proofs.reader.read_circuit.Goals as goal
 
 pub sums_at-requires : goal.sums_at-requires
 sums_at-requires c =
@@ -20,9 +19,9 @@ are_results_right-requires c =
       after_inputs = c.in_ok-inputs.rest.now;
       after_sums = c.in_ok-sums.rest.now;
       after_outs = c.in_ok-outs.rest.now;
-      head = sym c.head_at.ensures ∙ ap (option_map (λ x. (x.0, x.1, x.2.now))) c.in_ok-width.ensures.ok_part;
+      head = c.in_ok-width.ensures;
       inputs = c.in_ok-inputs.ensures;
-      sums = subst (λ (n : ℕ). sums_at n c.in_ok-inputs.rest.now ≡ Some (c.in_ok-sums.sums.items, c.in_ok-sums.rest.now)) number c.in_ok-sums.ensures;
+      sums = subst (λ (n : ℕ). sums_at n c.in_ok-inputs.rest.now ≡ Ok (c.in_ok-sums.sums.items, c.in_ok-sums.rest.now)) number c.in_ok-sums.ensures;
       outs = c.in_ok-outs.ensures;
     } in
     rw (c.from_vec.ensures, c.from_vec-2.ensures, c.from_vec-3.ensures) (limits_read c.args.bytes.now circuit are)
@@ -36,9 +35,9 @@ returns-then-are_results_right-clause-rules c =
       after_inputs = c.in_ok-inputs.rest.now;
       after_sums = c.in_ok-sums.rest.now;
       after_outs = c.in_ok-outs.rest.now;
-      head = sym c.head_at.ensures ∙ ap (option_map (λ x. (x.0, x.1, x.2.now))) c.in_ok-width.ensures.ok_part;
+      head = c.in_ok-width.ensures;
       inputs = c.in_ok-inputs.ensures;
-      sums = subst (λ (n : ℕ). sums_at n c.in_ok-inputs.rest.now ≡ Some (c.in_ok-sums.sums.items, c.in_ok-sums.rest.now)) number c.in_ok-sums.ensures;
+      sums = subst (λ (n : ℕ). sums_at n c.in_ok-inputs.rest.now ≡ Ok (c.in_ok-sums.sums.items, c.in_ok-sums.rest.now)) number c.in_ok-sums.ensures;
       outs = c.in_ok-outs.ensures;
     } in
     let made : Circuit = record { params = c.in_ok-width.params; width = c.in_ok-width.width; inputs = c.from_vec.result; sums = c.from_vec-2.result; outs = c.from_vec-3.result } in
