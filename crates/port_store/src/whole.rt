@@ -97,6 +97,7 @@ pub fn write_whole<S: Store>(store: &mut S, name: &str, bytes: &[u8]) -> Result<
     ensures failed { IsErrOf result PortFault.Failed → Rises (S.write_faults store.old) (S.write_faults store.new) }
     ensures never_fall { S.write_faults store.old ≤ S.write_faults store.new }
     ensures no_read { S.read_faults store.new ≡ S.read_faults store.old }
+    ensures account { S.shown store.new ≡ S.shown store.old }
 {
     store.create(name)?;
     let mut written = 0;
