@@ -3,7 +3,7 @@ use Rattle.std.proofs.Common.{◌≡◌, ℕ, zero, suc, ◌+◌, ◌-◌, ◌*�
 use Rattle.std.specs.Prelude.{IfOk}
 use Rattle.std.specs.Global.{Vec}
 use Rattle.word_ring.specs.Words.{centred}
-use Rattle.word_ring.specs.Signed.{word_of, SignedLaws}
+use Rattle.word_ring.specs.Signed.{word_of}
 use Rattle.std.specs.List.{flat_map, AllByRecursion}
 use Rattle.std.specs.Simd.{first_chunks}
 use Rattle.std.proofs.Math.Seq.{take-add}
@@ -20,8 +20,9 @@ use Rattle.cipher_files.specs.declared.head.CipherHead.{CipherHead}
 use Rattle.cipher_files.specs.CiphertextFile.{CiphertextFile, magic, word_bytes, range_bytes, words_bytes, ciphertext_file_body, ciphertext_bytes, IsRange, HasFileLimits, IsCiphertextFile, file_of}
 use Rattle.circuit_file.specs.Ranges.{is_input_range}
 use Rattle.refusals.specs.Reading.{◌>>=◌, Gives}
+use Rattle.cipher_files.specs.Laws.{CiphertextFileLaws}
 use Rattle.cipher_files.specs.CiphertextReading.{Read, check, word_of_bytes, word_in, number_within, counts_of, is_sealed, range_of, ranges_of, words_of, ciphertexts_of, ciphertext_file_of}
-use Rattle.cipher_files.proofs.CiphertextWords.{IsCiphertext, IsBytes, IsBytes-take, IsBytes-drop, all_bytes, bytes_again, word_fits}
+use Rattle.cipher_files.proofs.CiphertextWords.{LowerLaws, IsCiphertext, IsBytes, IsBytes-take, IsBytes-drop, all_bytes, bytes_again, word_fits}
 use Rattle.refusals.specs.Steps.{one_value, value_of_step, test_held}
 use Rattle.cipher_files.proofs.CiphertextPieces.{cut}
 
@@ -45,22 +46,20 @@ number_taken least most number x e =
 
 -- ---- ranges
 
-range_taken : SignedLaws → (bytes : List ℕ) (range : ℤ × ℤ) → IsBytes bytes → length bytes ≡ 16 → range_of bytes ≡ Ok range → (range_bytes range ≡ bytes) × IsRange range
+range_taken : LowerLaws → (bytes : List ℕ) (range : ℤ × ℤ) → IsBytes bytes → length bytes ≡ 16 → range_of bytes ≡ Ok range → (range_bytes range ≡ bytes) × IsRange range
 unfolding range_of
-range_taken signed bytes range fits len e =
-    let back : (w : ℕ) → w < 2 ^ 64 → word_of (centred w) ≡ w = λ w small. signed.centred_word w ∙ omega arith in
+range_taken lower bytes range fits len e =
+    let back : (w : ℕ) → w < 2 ^ 64 → word_of (centred w) ≡ w = λ w small. lower.signed.centred_word w ∙ omega arith in
     let low : ℤ = centred (word_in 0 bytes) in
     let high : ℤ = centred (word_in 8 bytes) in
     let a = checked (is_input_range low high) (Ok (low, high)) range e in
-    let b = and_parts (int_le (negsuc 32767) low) (int_le low high && int_le high (pos 65535)) a.0 in
-    let d = and_parts (int_le low high) (int_le high (pos 65535)) b.1 in
     let low_back : word_bytes (word_of low) ≡ take 8 bytes =
     ap word_bytes (back (word_in 0 bytes) (word_fits (take 8 bytes) (IsBytes-take 8 bytes fits))) ∙ bytes_again (take 8 bytes) (omega (arith, length-take 8 bytes)) (IsBytes-take 8 bytes fits) in
     let behind : IsBytes (take 8 (drop 8 bytes)) = IsBytes-take 8 (drop 8 bytes) (IsBytes-drop 8 bytes fits) in
     let high_back : word_bytes (word_of high) ≡ take 8 (drop 8 bytes) =
     ap word_bytes (back (word_in 8 bytes) (word_fits (take 8 (drop 8 bytes)) behind)) ∙ bytes_again (take 8 (drop 8 bytes)) (omega (arith, length-take 8 (drop 8 bytes), length-drop 8 bytes)) behind in
     let both : range_bytes (low, high) ≡ bytes = rw (low_back, high_back) (sym (take-add 8 8 bytes) ∙ take_all 16 bytes (omega arith)) in
-    let limits : IsRange (low, high) = record { low = record { le = subst T (sym b.0) tt }; rising = record { le = subst T (sym d.0) tt }; high = record { le = subst T (sym d.1) tt } } in
+    let limits : IsRange (low, high) = (lower.ranges.test low high).0 a.0 in
     subst (λ (r : ℤ × ℤ). (range_bytes r ≡ bytes) × IsRange r) (some_is (low, high) range a.1) (both, limits)
 
 -- what the first pieces of the bytes spell
@@ -78,14 +77,14 @@ spell_more spelling Fits size n bytes value values first fits others =
     let whole : take (suc n * size) bytes ≡ take size bytes ++ take (n * size) (drop size bytes) = ap (λ (k : ℕ). take k bytes) (omega arith) ∙ take-add size (n * size) bytes in
     record { spelled = flat_map-cons spelling value values ∙ rw (first, others.spelled) (sym whole); number = ap suc others.number; fit = (fits, others.fit) }
 
-ranges_taken : SignedLaws → (n : ℕ) (bytes : List ℕ) (ranges : List (ℤ × ℤ)) → IsBytes bytes → n * 16 ≤ length bytes → ranges_of (first_chunks 16 n bytes) ≡ Ok ranges → Spell range_bytes IsRange n (take (n * 16) bytes) ranges
+ranges_taken : LowerLaws → (n : ℕ) (bytes : List ℕ) (ranges : List (ℤ × ℤ)) → IsBytes bytes → n * 16 ≤ length bytes → ranges_of (first_chunks 16 n bytes) ≡ Ok ranges → Spell range_bytes IsRange n (take (n * 16) bytes) ranges
 unfolding ranges_of
-ranges_taken signed zero bytes ranges fits enough e = subst (Spell range_bytes IsRange 0 []) (some_is [] ranges e) (spell_none range_bytes IsRange)
-ranges_taken signed (suc n) bytes ranges fits enough e =
+ranges_taken lower zero bytes ranges fits enough e = subst (Spell range_bytes IsRange 0 []) (some_is [] ranges e) (spell_none range_bytes IsRange)
+ranges_taken lower (suc n) bytes ranges fits enough e =
     let a = value_of_step (range_of (take 16 bytes)) (λ range. ranges_of (first_chunks 16 n (drop 16 bytes)) >>= λ others. Ok (range ∷ others)) ranges e in
     let b = value_of_step (ranges_of (first_chunks 16 n (drop 16 bytes))) (λ others. Ok (a.0 ∷ others)) ranges a.2 in
-    let first = range_taken signed (take 16 bytes) a.0 (IsBytes-take 16 bytes fits) (omega (arith, length-take 16 bytes)) a.1 in
-    let others = ranges_taken signed n (drop 16 bytes) b.0 (IsBytes-drop 16 bytes fits) (omega (arith, length-drop 16 bytes)) b.1 in
+    let first = range_taken lower (take 16 bytes) a.0 (IsBytes-take 16 bytes fits) (omega (arith, length-take 16 bytes)) a.1 in
+    let others = ranges_taken lower n (drop 16 bytes) b.0 (IsBytes-drop 16 bytes fits) (omega (arith, length-drop 16 bytes)) b.1 in
     subst (Spell range_bytes IsRange (suc n) (take (suc n * 16) bytes)) (some_is (a.0 ∷ b.0) ranges b.2) (spell_more range_bytes IsRange 16 n bytes a.0 b.0 first.0 first.1 others)
 
 -- ---- words
@@ -197,13 +196,13 @@ seal_cut bytes body long parts sealed =
     parts ∙ ap (λ (x : List ℕ). body ++ x) (seal_is ∙ ap sha256 body_is)
 
 -- the file that the parts of reading make
-made_taken : SignedLaws → (bytes : List ℕ) (counts : ℕ × ℕ × ℕ) (ranges : List (ℤ × ℤ)) → IsBytes bytes → Counted bytes counts → is_sealed bytes ≡ true → ranges_of (first_chunks 16 counts.2 (drop 64 bytes)) ≡ Ok ranges
+made_taken : LowerLaws → (bytes : List ℕ) (counts : ℕ × ℕ × ℕ) (ranges : List (ℤ × ℤ)) → IsBytes bytes → Counted bytes counts → is_sealed bytes ≡ true → ranges_of (first_chunks 16 counts.2 (drop 64 bytes)) ≡ Ok ranges
     → let file : CiphertextFile = record { digest = take 32 (drop 8 bytes); dim = counts.0; width = counts.1; ranges = ranges; ciphertexts = ciphertexts_of counts.0 counts.2 (drop (64 + 16 * counts.2) bytes) } in IsCiphertextFile file × (bytes ≡ ciphertext_bytes file)
-made_taken signed bytes counts ranges fits c sealed found =
+made_taken lower bytes counts ranges fits c sealed found =
     let digest : List ℕ = take 32 (drop 8 bytes) in
     let behind : List ℕ = drop (64 + 16 * counts.2) bytes in
     let long : 96 ≤ length bytes = omega (arith, c.len) in
-    let ranges_are = ranges_taken signed counts.2 (drop 64 bytes) ranges (IsBytes-drop 64 bytes fits) (omega (arith, c.len, length-drop 64 bytes)) found in
+    let ranges_are = ranges_taken lower counts.2 (drop 64 bytes) ranges (IsBytes-drop 64 bytes fits) (omega (arith, c.len, length-drop 64 bytes)) found in
     let ciphertexts_are = ciphertexts_taken counts.0 counts.2 behind (IsBytes-drop (64 + 16 * counts.2) bytes fits) (omega (arith, c.len, length-drop (64 + 16 * counts.2) bytes)) in
     let ciphertexts : List (List ℕ) = ciphertexts_of counts.0 counts.2 behind in
     let parts = body_cut bytes counts (flat_map range_bytes ranges) (flat_map words_bytes ciphertexts) fits c ranges_are.spelled ciphertexts_are.spelled in
@@ -229,15 +228,15 @@ made_taken signed bytes counts ranges fits c sealed found =
       seal_cut bytes (ciphertext_file_body file) (omega arith) named sealed,
     )
 
-pub file_taken : SignedLaws → (bytes : List ℕ) (file : CiphertextFile) → IsBytes bytes → ciphertext_file_of bytes ≡ Ok file → IsCiphertextFile file × (bytes ≡ ciphertext_bytes file)
+pub file_taken : LowerLaws → (bytes : List ℕ) (file : CiphertextFile) → IsBytes bytes → ciphertext_file_of bytes ≡ Ok file → IsCiphertextFile file × (bytes ≡ ciphertext_bytes file)
 unfolding ciphertext_file_of
-file_taken signed bytes file fits e =
+file_taken lower bytes file fits e =
     let made : ℕ × ℕ × ℕ → List (ℤ × ℤ) → CiphertextFile = λ counts ranges. record { digest = take 32 (drop 8 bytes); dim = counts.0; width = counts.1; ranges = ranges; ciphertexts = ciphertexts_of counts.0 counts.2 (drop (64 + 16 * counts.2) bytes) } in
     let after_seal : ℕ × ℕ × ℕ → Read CiphertextFile = λ counts. ranges_of (first_chunks 16 counts.2 (drop 64 bytes)) >>= λ ranges. Ok (made counts ranges) in
     let counts = value_of_step (counts_of bytes) (λ counts. check (is_sealed bytes) >>= λ _. after_seal counts) file e in
     let sealed = checked (is_sealed bytes) (after_seal counts.0) file counts.2 in
     let found = value_of_step (ranges_of (first_chunks 16 counts.0.2 (drop 64 bytes))) (λ ranges. Ok (made counts.0 ranges)) file sealed.1 in
-    subst (λ (f : CiphertextFile). IsCiphertextFile f × (bytes ≡ ciphertext_bytes f)) {x = made counts.0 found.0} (some_is (made counts.0 found.0) file found.2) (made_taken signed bytes counts.0 found.0 fits (counted bytes counts.0 counts.1) sealed.0 found.1)
+    subst (λ (f : CiphertextFile). IsCiphertextFile f × (bytes ≡ ciphertext_bytes f)) {x = made counts.0 found.0} (some_is (made counts.0 found.0) file found.2) (made_taken lower bytes counts.0 found.0 fits (counted bytes counts.0 counts.1) sealed.0 found.1)
 
 -- ---- the number of words of each ciphertext, whatever the bytes are
 
@@ -259,6 +258,6 @@ rows_long bytes file e =
     (λ k d lt. length-map (first_chunks 8 (dim + 1) _) word_of_bytes ∙ chunks_number 8 (dim + 1) _))
 
 -- a function that answers what reading gives answers a file that can be spelled
-pub is_valid : SignedLaws → (bytes : List ℕ) (answer : Result (CipherHead × Vec (List ℕ)) (Refusal FileFault)) → IsBytes bytes → Gives (λ read. file_of read.0 read.1.items) answer (ciphertext_file_of bytes) → IfOk answer (λ read. IsCiphertextFile (file_of read.0 read.1.items))
-is_valid signed bytes (Ok read) fits given = (file_taken signed bytes (file_of read.0 read.1.items) fits given).0
-is_valid signed bytes (Err refusal) fits given = tt
+pub is_valid : CiphertextFileLaws → (bytes : List ℕ) (answer : Result (CipherHead × Vec (List ℕ)) (Refusal FileFault)) → All (λ byte. byte < 256) bytes → Gives (λ read. file_of read.0 read.1.items) answer (ciphertext_file_of bytes) → IfOk answer (λ read. IsCiphertextFile (file_of read.0 read.1.items))
+is_valid laws bytes (Ok read) fits given = (laws.read bytes (file_of read.0 read.1.items) fits given).0
+is_valid laws bytes (Err refusal) fits given = tt

@@ -3,8 +3,15 @@ use Rattle.std.proofs.Common.{◌≡◌, ℕ, ◌+◌, ◌^◌, ◌<◌, List, l
 use Rattle.std.proofs.lemmas.Bool.{cases_lt}
 use Rattle.std.proofs.lemmas.List.{get_or-drop, get_or-take, get_or_past, get_or_default, length-take}
 use Rattle.std.proofs.lemmas.Nat.{le_bytes_8, from_le_bytes-to_le_bytes_8}
+use Rattle.word_ring.specs.Signed.{SignedLaws}
+use Rattle.circuit_file.specs.Laws.{InputRangeLaws}
 use Rattle.cipher_files.specs.CiphertextFile.{word_bytes}
 use Rattle.cipher_files.specs.CiphertextReading.{word_of_bytes}
+
+-- what the crates below promise of signed numbers and of ranges
+pub record LowerLaws : Type 0 where
+  pub signed : SignedLaws
+  pub ranges : InputRangeLaws
 
 -- at each place stands a byte
 abbrev pub IsBytes : List ℕ → Type 0

@@ -5,9 +5,11 @@ use Rattle.std.specs.Simd.{first_chunks}
 use Rattle.sha2.specs.Sha256.{sha256}
 use Rattle.refusals.specs.Reading.{◌>>=◌, unless}
 use Rattle.word_ring.specs.Words.{centred}
+use Rattle.circuit_file.specs.Limits.{most_dimension, most_width}
 use Rattle.circuit_file.specs.Ranges.{is_input_range}
 use Rattle.cipher_files.specs.declared.fault.FileFault.{FileFault}
 use Rattle.cipher_files.specs.declared.fault.FileFault.TheVariants.{Later}
+use Rattle.cipher_files.specs.Limits.{most_ciphertexts, head_size, range_size, ciphertext_size, seal_size, file_size}
 use Rattle.cipher_files.specs.CiphertextFile.{CiphertextFile, magic}
 
 -- what is read, or the first fault: one for all checks so far
@@ -35,17 +37,17 @@ number_within least most number = do
 -- the dimension, the width and the number of ciphertexts, where the bytes are as many as these say
 unfoldable pub counts_of : List ℕ → Read (ℕ × ℕ × ℕ)
 counts_of bytes = do
-  _ ← check (nat_le 96 (length bytes))
+  _ ← check (nat_le (head_size + seal_size) (length bytes))
   _ ← check (bytes_eq (take 8 bytes) magic)
-  dim ← number_within 1 24576 (word_in 40 bytes)
-  width ← number_within 1 16 (word_in 48 bytes)
-  number ← number_within 0 64 (word_in 56 bytes)
-  _ ← check (length bytes == 96 + 16 * number + number * (8 * (dim + 1)))
+  dim ← number_within 1 most_dimension (word_in 40 bytes)
+  width ← number_within 1 most_width (word_in 48 bytes)
+  number ← number_within 0 most_ciphertexts (word_in 56 bytes)
+  _ ← check (length bytes == file_size dim number)
   Ok (dim, width, number)
 
--- the last 32 bytes are the SHA-256 of those before them
+-- the last bytes are the SHA-256 of those before them
 unfoldable pub is_sealed : List ℕ → Bool
-is_sealed bytes = bytes_eq (drop (length bytes - 32) bytes) (sha256 (take (length bytes - 32) bytes))
+is_sealed bytes = bytes_eq (drop (length bytes - seal_size) bytes) (sha256 (take (length bytes - seal_size) bytes))
 
 -- the range in sixteen bytes
 unfoldable pub range_of : List ℕ → Read (ℤ × ℤ)
@@ -69,13 +71,13 @@ words_of count bytes = map word_of_bytes (first_chunks 8 count bytes)
 
 -- so many ciphertexts from the front, each of its mask's words and a body
 abbrev pub ciphertexts_of : ℕ → ℕ → List ℕ → List (List ℕ)
-ciphertexts_of dim number bytes = map (words_of (dim + 1)) (first_chunks (8 * (dim + 1)) number bytes)
+ciphertexts_of dim number bytes = map (words_of (dim + 1)) (first_chunks (ciphertext_size dim) number bytes)
 
 -- the file that the bytes spell, where each check holds
 unfoldable pub ciphertext_file_of : List ℕ → Read CiphertextFile
 ciphertext_file_of bytes = do
   (dim, width, number) ← counts_of bytes
   _ ← check (is_sealed bytes)
-  ranges ← ranges_of (first_chunks 16 number (drop 64 bytes))
-  let ciphertexts = ciphertexts_of dim number (drop (64 + 16 * number) bytes)
+  ranges ← ranges_of (first_chunks range_size number (drop head_size bytes))
+  let ciphertexts = ciphertexts_of dim number (drop (head_size + range_size * number) bytes)
   Ok (record { digest = take 32 (drop 8 bytes); dim = dim; width = width; ranges = ranges; ciphertexts = ciphertexts })

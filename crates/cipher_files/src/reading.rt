@@ -2,6 +2,8 @@
 
 ghost use Rattle.std.specs.Prelude.{◌≡◌, ◌+◌, ◌*◌, ◌/◌, ◌<◌, ◌≤◌, ◌^◌, length, take, drop, IsTrue, IfOk, OnOk};
 ghost use Rattle.std.specs.Simd.{first_chunks};
+ghost use Rattle.circuit_file.specs.Limits.{most_dimension};
+ghost use Rattle.cipher_files.specs.Limits.{most_ciphertexts, range_size, ciphertext_size, seal_size, file_size};
 ghost use Rattle.cipher_files.specs.CiphertextFile.{IsCiphertextFile, file_of};
 ghost use Rattle.refusals.specs.Reading.{Gives};
 ghost use Rattle.cipher_files.specs.CiphertextReading.{check, word_in, number_within, counts_of, is_sealed, range_of, ranges_of, words_of, ciphertexts_of, ciphertext_file_of};
@@ -9,13 +11,17 @@ ghost use Rattle.cipher_files.specs.CiphertextReading.{check, word_in, number_wi
 use crate::MAGIC;
 use crate::fault::FileFault;
 use crate::head::CipherHead;
-use circuit_file::is_input_range;
+use crate::laws::laws;
+use crate::limits::{
+    HEAD_SIZE, MOST_CIPHERTEXTS, RANGE_SIZE, SEAL_SIZE, ciphertext_size, file_size,
+};
+use circuit_file::{MOST_DIMENSION, MOST_WIDTH, is_input_range};
 use lists::List;
 use lwe_core::{Big, Lwe};
 use refusals::{Refusal, unless};
 use sha2::{Digest, Sha256};
 use std::alloc::{AllocError, Global};
-use word_ring::{centred, signed_laws};
+use word_ring::centred;
 
 /// The numbers that a file says of itself.
 #[derive(Clone, Copy)]
@@ -57,32 +63,31 @@ fn number_within(least: u64, most: u64, number: u64) -> Result<u32, Refusal<File
 #[tactic(auto, unfolding(crate::specs::CiphertextReading::counts_of))]
 fn counts_of(bytes: &[u8]) -> Result<Counts, Refusal<FileFault>>
     ensures read { Gives (λ counts. (counts.dim, counts.width, counts.number)) result (counts_of bytes.now) }
-    ensures dim { IfOk result (λ counts. counts.dim ≤ 24576) }
-    ensures number { IfOk result (λ counts. counts.number ≤ 64) }
-    ensures len { IfOk result (λ counts. length bytes.now ≡ 96 + 16 * counts.number + counts.number * (8 * (counts.dim + 1))) }
+    ensures dim { IfOk result (λ counts. counts.dim ≤ most_dimension) }
+    ensures number { IfOk result (λ counts. counts.number ≤ most_ciphertexts) }
+    ensures len { IfOk result (λ counts. length bytes.now ≡ file_size counts.dim counts.number) }
 {
-    check(bytes.len() >= 96)?;
+    check(bytes.len() >= HEAD_SIZE + SEAL_SIZE)?;
     check(&bytes[..8] == MAGIC.as_slice())?;
-    let dim = number_within(1, 24576, word_in(bytes, 40))?;
-    let width = number_within(1, 16, word_in(bytes, 48))?;
-    let number = number_within(0, 64, word_in(bytes, 56))?;
-    let many = number as usize;
-    check(bytes.len() == 96 + 16 * many + many * (8 * (dim as usize + 1)))?;
+    let dim = number_within(1, MOST_DIMENSION, word_in(bytes, 40))?;
+    let width = number_within(1, MOST_WIDTH, word_in(bytes, 48))?;
+    let number = number_within(0, MOST_CIPHERTEXTS, word_in(bytes, 56))?;
+    check(bytes.len() == file_size(dim, number as usize))?;
     Ok(Counts { dim, width, number })
 }
 
 #[tactic(auto, unfolding(crate::specs::CiphertextReading::is_sealed))]
 fn is_sealed(bytes: &[u8]) -> bool
-    requires { 32 ≤ length bytes.now }
+    requires { seal_size ≤ length bytes.now }
     ensures { result ≡ is_sealed bytes.now }
 {
-    let (body, seal) = bytes.split_at(bytes.len() - 32);
+    let (body, seal) = bytes.split_at(bytes.len() - SEAL_SIZE);
     seal == Sha256::digest(body).as_slice()
 }
 
 #[tactic(auto, unfolding(crate::specs::CiphertextReading::range_of))]
 fn range_of(bytes: &[u8]) -> Result<(i64, i64), Refusal<FileFault>>
-    requires { 16 ≤ length bytes.now }
+    requires { range_size ≤ length bytes.now }
     ensures { Gives (λ range. range) result (range_of bytes.now) }
 {
     let low = centred(word_in(bytes, 0));
@@ -105,13 +110,13 @@ fn ranges_of(
     number: usize,
     bytes: &[u8],
 ) -> Result<Vec<(i64, i64)>, Refusal<FileFault>>
-    requires { 16 * number ≤ length bytes.now }
-    ensures { Gives (λ ranges. ranges.items) result (ranges_of (first_chunks 16 number bytes.now)) }
+    requires { range_size * number ≤ length bytes.now }
+    ensures { Gives (λ ranges. ranges.items) result (ranges_of (first_chunks range_size number bytes.now)) }
 {
     let mut ranges = Vec::with_capacity(alloc, number)?;
     let mut rest = bytes;
     for _ in 0..number {
-        let (piece, after) = rest.split_at(16);
+        let (piece, after) = rest.split_at(RANGE_SIZE);
         ranges.push(range_of(piece)?)?;
         rest = after;
     }
@@ -132,15 +137,15 @@ fn words_of(alloc: Global, bytes: &[u8]) -> Result<Vec<u64>, AllocError>
 
 fn ciphertexts_of(
     alloc: Global,
-    dim: usize,
+    dim: u32,
     number: usize,
     bytes: &[u8],
 ) -> Result<Vec<Lwe<Big>>, AllocError>
-    requires dim { dim ≤ 24576 }
-    requires len { number * (8 * (dim + 1)) ≤ length bytes.now }
+    requires dim { dim ≤ most_dimension }
+    requires len { number * ciphertext_size dim ≤ length bytes.now }
     ensures { IfOk result (λ list. list.items ≡ ciphertexts_of dim number bytes.now) }
 {
-    let size = 8 * (dim + 1);
+    let size = ciphertext_size(dim);
     let mut list = Vec::with_capacity(alloc, number)?;
     let mut rest = bytes;
     for _ in 0..number {
@@ -158,12 +163,12 @@ fn file_in(alloc: Global, bytes: &[u8]) -> Result<(CipherHead, Vec<Lwe<Big>>), R
     let counts = counts_of(bytes)?;
     check(is_sealed(bytes))?;
     let number = counts.number as usize;
-    let ranges = ranges_of(alloc, number, &bytes[64..])?;
+    let ranges = ranges_of(alloc, number, &bytes[HEAD_SIZE..])?;
     let list = ciphertexts_of(
         alloc,
-        counts.dim as usize,
+        counts.dim,
         number,
-        &bytes[64 + 16 * number..],
+        &bytes[HEAD_SIZE + RANGE_SIZE * number..],
     )?;
     let head = CipherHead {
         digest: digest_of(bytes),
@@ -186,6 +191,6 @@ pub fn read_cipher(
     // So it can be printed again.
     ensures valid { IfOk result (λ read. IsCiphertextFile (file_of read.0 read.1.items)) }
 {
-    signed_laws();
+    laws();
     file_in(alloc, bytes)
 }

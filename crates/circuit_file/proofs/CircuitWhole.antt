@@ -122,7 +122,7 @@ inputs_end number (s ∷ ss) os rest small some node =
 line_of : (c : Circuit) → IsCircuit c → (o : Out) → IsOut c o → HasLine o
 line_of c is o out = record { range = out.range; node = omega (arith, out.node, is.input_number, is.sum_number) }
 
-lines_of : (c : Circuit) → IsCircuit c → All HasLine c.outs
+pub lines_of : (c : Circuit) → IsCircuit c → All HasLine c.outs
 lines_of c is = λ k d lt. line_of c is _ (is.outs k d lt)
 
 pub circuit_again : (circuit : Circuit) → IsCircuit circuit → circuit_of (circuit_text circuit) ≡ Ok circuit

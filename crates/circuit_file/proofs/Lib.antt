@@ -5,3 +5,4 @@ pub mod NodeLines
 pub mod ParameterLines
 pub mod ResultRules
 pub mod CircuitWhole
+pub mod TextLengths

@@ -14,6 +14,8 @@ use Rattle.circuit_file.specs.declared.circuit.Range.{Range}
 use Rattle.circuit_file.specs.declared.circuit.Term.{Term}
 use Rattle.circuit_file.specs.declared.circuit.WeightedSum.{WeightedSum}
 use Rattle.circuit_file.specs.declared.circuit.Out.{Out}
+use Rattle.circuit_file.specs.Limits.{least_number, most_number}
+use Rattle.circuit_file.specs.Ranges.{IsInputRange, is_input_range}
 use Rattle.circuit_file.specs.Circuit.{line_feed, range_line, input_lines, term_text, sum_lines, out_line, IsRange, IsTerm, AreRising, IsSum}
 use Rattle.circuit_file.specs.Circuit.{input_line, sum_line}
 use Rattle.refusals.specs.Reading.{◌>>=◌}
@@ -34,14 +36,15 @@ pub from_holds : (test : Bool) → T test → test ≡ true
 from_holds true t = refl
 from_holds false t = absurd t
 
-range_rules : (r : Range) → is_range r ≡ true → IsRange r
-range_rules r e =
-    let a = and_parts (int_le (negsuc 32767) r.lo) (int_le r.lo r.hi && int_le r.hi (pos 65535)) e in
-    let b = and_parts (int_le r.lo r.hi) (int_le r.hi (pos 65535)) a.1 in
-    record { low = record { le = holds (int_le (negsuc 32767) r.lo) a.0 }; rising = record { le = holds (int_le r.lo r.hi) b.0 }; high = record { le = holds (int_le r.hi (pos 65535)) b.1 } }
+-- the test of a range, and its rule
+pub input_range_rules : (lo hi : ℤ) → is_input_range lo hi ≡ true → IsInputRange lo hi
+input_range_rules lo hi e =
+    let a = and_parts (int_le least_number lo) (int_le lo hi && int_le hi most_number) e in
+    let b = and_parts (int_le lo hi) (int_le hi most_number) a.1 in
+    record { low = record { le = holds (int_le least_number lo) a.0 }; rising = record { le = holds (int_le lo hi) b.0 }; high = record { le = holds (int_le hi most_number) b.1 } }
 
-pub range_passes : (r : Range) → IsRange r → is_range r ≡ true
-range_passes r is = rw (from_holds (int_le (negsuc 32767) r.lo) is.low.le, from_holds (int_le r.lo r.hi) is.rising.le, from_holds (int_le r.hi (pos 65535)) is.high.le) refl
+pub input_range_passes : (lo hi : ℤ) → IsInputRange lo hi → is_input_range lo hi ≡ true
+input_range_passes lo hi is = rw (from_holds (int_le least_number lo) is.low.le, from_holds (int_le lo hi) is.rising.le, from_holds (int_le hi most_number) is.high.le) refl
 
 abbrev after_hi : ℤ → ℤ × List ℕ → Read (Range × List ℕ)
 after_hi lo hi = literal_at line_feed hi.1 >>= λ rest. let range : Range = record { lo = lo; hi = hi.0 } in cond (is_range range) (Ok (range, rest)) (Err text_fault)
@@ -58,9 +61,9 @@ range_taken words bytes x e =
     let rest = value_of_step (literal_at line_feed hi.0.1) (λ rest. cond (is_range range) (Ok (range, rest)) (Err text_fault)) x hi.2 in
     let t = test_passed (is_range range) (range, rest.0) x rest.2 in
     let whole = join_two bytes words (signed_decimal lo.0.0) (codes " ") (signed_decimal hi.0.0) line_feed lo.0.1 hi.0.1 rest.0 (integer_field_taken words bytes lo.0 lo.1) (integer_field_taken (codes " ") lo.0.1 hi.0 hi.1) (words_taken line_feed hi.0.1 rest.0 rest.1) in
-    subst (λ (y : Range × List ℕ). (bytes ≡ range_line words y.0 ++ y.1) × IsRange y.0) t.1 (whole, range_rules range t.0)
+    subst (λ (y : Range × List ℕ). (bytes ≡ range_line words y.0 ++ y.1) × IsRange y.0) t.1 (whole, input_range_rules range.lo range.hi t.0)
 
-mag_small : (z : ℤ) → negsuc 32767 ≤ℤ z → z ≤ℤ pos 65535 → mag z + 1 < 2 ^ 63
+pub mag_small : (z : ℤ) → negsuc 32767 ≤ℤ z → z ≤ℤ pos 65535 → mag z + 1 < 2 ^ 63
 mag_small (pos n) low high = omega (arith, ints)
 mag_small (negsuc n) low high = omega (arith, ints)
 
@@ -70,7 +73,7 @@ range_again words r rest is =
     let lo_small : mag r.lo + 1 < 2 ^ 63 = mag_small r.lo is.low (omega (arith, ints)) in
     let hi_small : mag r.hi + 1 < 2 ^ 63 = mag_small r.hi (omega (arith, ints)) is.high in
     ap (range_at words) (regroup_two words (signed_decimal r.lo) (codes " ") (signed_decimal r.hi) line_feed rest)
-    ∙ rw (integer_field_again words r.lo (codes " " ++ (signed_decimal r.hi ++ (line_feed ++ rest))) lo_small refl, integer_field_again (codes " ") r.hi (line_feed ++ rest) hi_small refl, words_again line_feed rest, range_passes r is) refl
+    ∙ rw (integer_field_again words r.lo (codes " " ++ (signed_decimal r.hi ++ (line_feed ++ rest))) lo_small refl, integer_field_again (codes " ") r.hi (line_feed ++ rest) hi_small refl, words_again line_feed rest, input_range_passes r.lo r.hi is) refl
 
 -- ---- inputs
 
@@ -178,7 +181,7 @@ term_takes inputs low bytes x e =
 abbrev pub MayFollow : List ℕ → Type 0
 MayFollow rest = is_ascii_digit (slice_index rest 0) ≡ false
 
-weight_small : (z : ℤ) (limit : ℕ) → unsigned_abs z ≤ limit → limit < 2 ^ 62 → mag z + 1 < 2 ^ 63
+pub weight_small : (z : ℤ) (limit : ℕ) → unsigned_abs z ≤ limit → limit < 2 ^ 62 → mag z + 1 < 2 ^ 63
 weight_small (pos n) limit le few = omega arith
 weight_small (negsuc n) limit le few = omega arith
 

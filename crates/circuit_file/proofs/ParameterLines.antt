@@ -68,7 +68,7 @@ glwe_taken bytes x e =
     at_given (λ (y : GlweChoice × List ℕ). (bytes ≡ glwe_line y.0 ++ y.1) × IsGlwe y.0) (made rest.0) x rest.2 (whole, rules)
 
 -- the ones are few
-few_ones : (k log_n ones : ℕ) → k ≤ 3 → log_n ≤ 13 → ones ≤ k * 2 ^ log_n → ones < 2 ^ 63
+pub few_ones : (k log_n ones : ℕ) → k ≤ 3 → log_n ≤ 13 → ones ≤ k * 2 ^ log_n → ones < 2 ^ 63
 few_ones k log_n ones k_high log_n_high most =
     let power : 2 ^ log_n ≤ 2 ^ 13 = pow-le-pow_right (omega arith) log_n_high in
     let product : k * 2 ^ log_n ≤ 3 * 2 ^ 13 = mul-le-mul k_high power in
@@ -140,7 +140,7 @@ bits_fit base level low most = let product : level * base ≤ 63 = (le-div_iff_m
 level_fits : (base level : ℕ) → 1 ≤ base → base * level ≤ 63 → level ≤ 63 / base
 level_fits base level low bits = (le-div_iff_mul-le {k = base} {x = level} {y = 63} low).1 (omega (arith, mul_comm base level))
 
-level_below : (base level : ℕ) → 1 ≤ base → base * level ≤ 63 → level < 2 ^ 63
+pub level_below : (base level : ℕ) → 1 ≤ base → base * level ≤ 63 → level < 2 ^ 63
 level_below base level low bits = let product : 1 * level ≤ base * level = mul-le-mul low (omega arith) in omega arith
 
 pub gadget_taken : (name bytes : List ℕ) (x : Gadget × List ℕ) → gadget_at name bytes ≡ Ok x → (bytes ≡ gadget_line name x.0 ++ x.1) × IsGadget x.0

@@ -11,6 +11,7 @@ use Rattle.circuit_file.specs.declared.circuit.Term.{Term}
 use Rattle.circuit_file.specs.declared.circuit.WeightedSum.{WeightedSum}
 use Rattle.circuit_file.specs.declared.circuit.Out.{Out}
 use Rattle.circuit_file.specs.declared.circuit.Circuit.{Circuit}
+use Rattle.circuit_file.specs.Limits.{most_polynomials, most_log_n, most_small_dimension, error_limit, most_base, most_digit_bits, most_width, bound_limit, most_inputs, most_sums, most_outs, most_weight, most_constant, node_limit}
 use Rattle.circuit_file.specs.Ranges.{is_input_range}
 use Rattle.refusals.specs.Reading.{◌>>=◌}
 use Rattle.circuit_file.specs.Reading.{Read, text_fault, literal_at}
@@ -21,25 +22,25 @@ use Rattle.circuit_file.specs.Circuit.{line_feed, node_count, range_of_node, bou
 
 unfoldable pub glwe_at : List ℕ → Read (GlweChoice × List ℕ)
 glwe_at bytes = do
-  k ← natural_field_at (codes "glwe ") 1 3 bytes
-  log_n ← natural_field_at (codes " ") 1 13 k.1
+  k ← natural_field_at (codes "glwe ") 1 most_polynomials bytes
+  log_n ← natural_field_at (codes " ") 1 most_log_n k.1
   ones ← natural_field_at (codes " ") 0 (k.0 * 2 ^ log_n.0) log_n.1
-  error ← natural_field_at (codes " ") 0 (2 ^ 62 - 1) ones.1
+  error ← natural_field_at (codes " ") 0 (error_limit - 1) ones.1
   rest ← literal_at line_feed error.1
   Ok (record { k = k.0; log_n = log_n.0; ones = ones.0; error = error.0 }, rest)
 
 unfoldable pub lwe_at : List ℕ → Read (LweChoice × List ℕ)
 lwe_at bytes = do
-  n ← natural_field_at (codes "lwe ") 1 1024 bytes
+  n ← natural_field_at (codes "lwe ") 1 most_small_dimension bytes
   ones ← natural_field_at (codes " ") 0 n.0 n.1
-  error ← natural_field_at (codes " ") 0 (2 ^ 62 - 1) ones.1
+  error ← natural_field_at (codes " ") 0 (error_limit - 1) ones.1
   rest ← literal_at line_feed error.1
   Ok (record { n = n.0; ones = ones.0; error = error.0 }, rest)
 
 unfoldable pub gadget_at : List ℕ → List ℕ → Read (Gadget × List ℕ)
 gadget_at name bytes = do
-  base ← natural_field_at name 1 31 bytes
-  level ← natural_field_at (codes " ") 1 (63 / base.0) base.1
+  base ← natural_field_at name 1 most_base bytes
+  level ← natural_field_at (codes " ") 1 (most_digit_bits / base.0) base.1
   rest ← literal_at line_feed level.1
   Ok (record { base = base.0; level = level.0 }, rest)
 
@@ -55,7 +56,7 @@ params_at bytes = do
 unfoldable pub head_at : List ℕ → Read (ℕ × Params × List ℕ)
 head_at bytes = do
   head ← literal_at (codes "fhec circuit 1" ++ line_feed) bytes
-  width ← natural_field_at (codes "width ") 1 16 head
+  width ← natural_field_at (codes "width ") 1 most_width head
   lines ← literal_at line_feed width.1
   params ← params_at lines
   Ok (width.0, params.0, params.1)
@@ -100,17 +101,17 @@ input_line_at node bytes = do
   range_at (codes " = input ") number.1
 
 unfoldable pub inputs_at : List ℕ → Read (List Range × List ℕ)
-inputs_at bytes = Ok (many input_line_at one_more 64 0 bytes)
+inputs_at bytes = Ok (many input_line_at one_more most_inputs 0 bytes)
 
 -- the test of a term of a sum over so many inputs
 abbrev pub is_term : ℕ → Term → Bool
-is_term inputs t = nat_lt t.node inputs && (not (int_eq t.weight (pos 0)) && nat_le (unsigned_abs t.weight) (2 ^ 40))
+is_term inputs t = nat_lt t.node inputs && (not (int_eq t.weight (pos 0)) && nat_le (unsigned_abs t.weight) most_weight)
 
 -- a term of a sum over so many inputs, whose node is this one or a later one
 unfoldable pub term_at : ℕ → ℕ → List ℕ → Read (Term × List ℕ)
 term_at inputs low bytes = do
   weight ← integer_field_at (codes " ") bytes
-  node ← natural_field_at (codes " %") low (2 ^ 32 - 1) weight.1
+  node ← natural_field_at (codes " %") low (node_limit - 1) weight.1
   let term : Term = record { weight = weight.0; node = node.0 } in if is_term inputs term then Ok (term, node.1) else Err text_fault
 
 -- the least node of the next term
@@ -118,7 +119,7 @@ abbrev pub after_term : ℕ → Term → ℕ
 after_term low t = t.node + 1
 
 unfoldable pub terms_at : ℕ → List ℕ → Read (List Term × List ℕ)
-terms_at inputs bytes = Ok (many (term_at inputs) after_term 64 0 bytes)
+terms_at inputs bytes = Ok (many (term_at inputs) after_term most_inputs 0 bytes)
 
 -- the line of the sum with this number, over so many inputs
 unfoldable pub sum_line_at : ℕ → ℕ → List ℕ → Read (WeightedSum × List ℕ)
@@ -127,20 +128,20 @@ sum_line_at inputs node bytes = do
   constant ← integer_field_at (codes " = lin ") number.1
   terms ← terms_at inputs constant.1
   rest ← literal_at line_feed terms.1
-  if nat_le (unsigned_abs constant.0) (2 ^ 41) then Ok (record { constant = constant.0; terms = terms.0 }, rest) else Err text_fault
+  if nat_le (unsigned_abs constant.0) most_constant then Ok (record { constant = constant.0; terms = terms.0 }, rest) else Err text_fault
 
 unfoldable pub sums_at : ℕ → List ℕ → Read (List WeightedSum × List ℕ)
-sums_at inputs bytes = Ok (many (sum_line_at inputs) one_more 1088 inputs bytes)
+sums_at inputs bytes = Ok (many (sum_line_at inputs) one_more most_sums inputs bytes)
 
 -- the line of an output
 unfoldable pub out_line_at : List ℕ → Read (Out × List ℕ)
 out_line_at bytes = do
-  node ← natural_field_at (codes "out %") 0 (2 ^ 32 - 1) bytes
+  node ← natural_field_at (codes "out %") 0 (node_limit - 1) bytes
   range ← range_at (codes " ") node.1
   Ok (record { node = node.0; range = range.0 }, range.1)
 
 unfoldable pub outs_at : List ℕ → Read (List Out × List ℕ)
-outs_at bytes = Ok (many (λ _. out_line_at) one_more 64 0 bytes)
+outs_at bytes = Ok (many (λ _. out_line_at) one_more most_outs 0 bytes)
 
 -- ---- what is computed afresh
 
@@ -154,7 +155,7 @@ fits_width r width = int_lt (span_of r) (pos (2 ^ width))
 
 -- the test of the bound: below its limit
 abbrev pub is_bound_kept : Circuit → ℕ → Bool
-is_bound_kept c node = nat_lt (bound_of_node c node) (2 ^ (62 - c.width))
+is_bound_kept c node = nat_lt (bound_of_node c node) (bound_limit c.width)
 
 -- the test of an output: it is a node's, has its range, fits the width, and the node's bound is below its limit
 abbrev pub is_out_right : Circuit → Out → Bool
@@ -172,12 +173,12 @@ are_results_right c = nat_lt 0 (length c.outs) && (list_all (is_out_right c) c.o
 pub record KeepsLimits (c : Circuit) : Type 0 where
   pub params : IsParams c.params
   pub width_low : 1 ≤ c.width
-  pub width_high : c.width ≤ 16
-  pub input_number : length c.inputs ≤ 64
+  pub width_high : c.width ≤ most_width
+  pub input_number : length c.inputs ≤ most_inputs
   pub inputs : All IsRange c.inputs
-  pub sum_number : length c.sums ≤ 1088
+  pub sum_number : length c.sums ≤ most_sums
   pub sums : All (IsSum (length c.inputs)) c.sums
-  pub out_number : length c.outs ≤ 64
+  pub out_number : length c.outs ≤ most_outs
   pub outs : All (λ o. IsRange o.range) c.outs
 
 -- the circuit that the whole text spells

@@ -4,15 +4,16 @@ use Rattle.std.specs.Char.{is_ascii_digit}
 use Rattle.std.specs.List.{position_or_len}
 use Rattle.std.specs.Str.Parse.{digits_value}
 use Rattle.refusals.specs.Reading.{◌>>=◌}
+use Rattle.circuit_file.specs.Limits.{number_limit}
 use Rattle.circuit_file.specs.Reading.{Read, text_fault, literal_at}
 
 -- one digit or more, and no zero in front of another digit
 abbrev pub is_numeral : List ℕ → Bool
 is_numeral digits = nat_lt 0 (length digits) && (nat_lt (length digits) 2 || not (slice_index digits 0 == 48))
 
--- the number that the digits spell, below 2^63
+-- the number that the digits spell, below its limit
 unfoldable pub numeral_value : List ℕ → Read ℕ
-numeral_value digits = if is_numeral digits && nat_lt (digits_value 10 digits) (2 ^ 63) then Ok (digits_value 10 digits) else Err text_fault
+numeral_value digits = if is_numeral digits && nat_lt (digits_value 10 digits) number_limit then Ok (digits_value 10 digits) else Err text_fault
 
 -- how many digits stand at the front
 abbrev pub digit_count : List ℕ → ℕ

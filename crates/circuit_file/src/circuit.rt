@@ -1,6 +1,7 @@
 //! A circuit: its parameters, its width, its nodes and its outputs.
 
 ghost use Rattle.std.specs.Prelude.{◌≡◌, ◌≤◌};
+ghost use Rattle.circuit_file.specs.Limits.{most_dimension};
 ghost use Rattle.circuit_file.specs.Circuit.{dimension, IsGlwe};
 
 use lists::List;
@@ -44,7 +45,7 @@ pub struct Params {
 pub fn dimension(params: &Params) -> u32
     requires { IsGlwe params.now.glwe }
     ensures number { result ≡ dimension params.now }
-    ensures most { result ≤ 24576 }
+    ensures most { result ≤ most_dimension }
 {
     params.glwe.k * (1 << params.glwe.log_n)
 }

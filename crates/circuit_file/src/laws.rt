@@ -1,12 +1,18 @@
-//! Reading and spelling a circuit.
+//! The laws of circuits and of their texts, as a contract that a proof may call for.
 
 ghost use Rattle.circuit_file.specs.CircuitLaws.{ReadIsSpelled, SpelledIsRead};
+ghost use Rattle.circuit_file.specs.Laws.{CircuitTextLaws, InputRangeLaws};
 
-/// Reading and spelling a circuit are inverse to each other: the texts that are read are the circuit texts,
-/// and each is read as its circuit.
+/// All laws of circuits. The texts that are read are the circuit texts, and each is read as its circuit.
+#[inline]
+pub fn laws()
+    ensures texts { CircuitTextLaws }
+    ensures ranges { InputRangeLaws }
+{}
+
+/// The first two laws of texts, until those who call for them call for all.
+#[inline]
 pub fn circuit_text_laws()
-    // What is read keeps the rules, and is spelled so.
     ensures read { ReadIsSpelled }
-    // What keeps the rules is read from its text.
     ensures spelled { SpelledIsRead }
 {}

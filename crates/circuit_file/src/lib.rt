@@ -3,7 +3,8 @@
 
 mod circuit;
 mod fault;
-mod laws;
+pub mod laws;
+mod limits;
 mod lines;
 mod params;
 mod printing;
@@ -17,6 +18,7 @@ pub use circuit::{
 };
 pub use fault::{CircuitFault, CircuitKind};
 pub use laws::circuit_text_laws;
+pub use limits::{CIRCUIT_LIMIT, MOST_DIMENSION, MOST_WIDTH};
 pub use printing::{print_circuit, print_params};
 pub use ranges::is_input_range;
 pub use reader::read_circuit;

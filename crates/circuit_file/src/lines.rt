@@ -2,29 +2,16 @@
 
 ghost use Rattle.std.specs.Prelude.{◌≡◌, ◌≤◌, length};
 ghost use Rattle.refusals.specs.Reading.{Gives};
+ghost use Rattle.circuit_file.specs.Limits.{most_inputs};
 ghost use Rattle.circuit_file.specs.CircuitReading.{range_at, is_term, input_line_at, inputs_at, term_at, terms_at, sum_line_at, sums_at, out_line_at, outs_at};
 
 use crate::circuit::{Out, Range, Term, WeightedSum};
+use crate::limits::{MOST_CONSTANT, MOST_INPUTS, MOST_NODE, MOST_OUTS, MOST_SUMS, MOST_WEIGHT};
 use crate::ranges::is_input_range;
 use crate::reading::{Read, integer_field_at, literal_at, natural_field_at, no_circuit};
 use lists::List;
 use refusals::Refusal;
 use std::alloc::Global;
-
-/// How many inputs a circuit has at most.
-const MOST_INPUTS: u64 = 64;
-
-/// How many terms a sum has at most: their nodes are inputs, and rise.
-const MOST_TERMS: u64 = 64;
-
-/// How many sums a circuit has at most.
-const MOST_SUMS: u64 = 1088;
-
-/// How many outputs a circuit has at most.
-const MOST_OUTS: u64 = 64;
-
-/// The greatest node number that is read; whether there is such a node is tested later.
-const MOST_NODE: u64 = (1 << 32) - 1;
 
 #[tactic(auto, unfolding(crate::specs::CircuitReading::range_at))]
 fn range_at<'a>(bytes: &'a [u8], literal: &[u8]) -> Read<'a, Range>
@@ -68,11 +55,11 @@ pub fn inputs_at(alloc: Global, bytes: &[u8]) -> Read<'_, Vec<Range>>
     Ok((inputs, rest))
 }
 
-/// Whether the term is on one of so many inputs, with a weight that is not 0 and at most 2^40 in size.
+/// Whether the term is on one of so many inputs, with a weight that is not 0 and within its limit.
 fn is_term(inputs: u64, term: Term) -> bool
     ensures { result ≡ is_term inputs term }
 {
-    u64::from(term.node) < inputs && term.weight != 0 && term.weight.unsigned_abs() <= 1 << 40
+    u64::from(term.node) < inputs && term.weight != 0 && term.weight.unsigned_abs() <= MOST_WEIGHT
 }
 
 /// A term of a sum over so many inputs, whose node is `low` or a later one.
@@ -100,7 +87,7 @@ fn terms_at(alloc: Global, bytes: &[u8], inputs: u64) -> Read<'_, Vec<Term>>
     let mut terms = Vec::new(alloc);
     let mut rest = bytes;
     let mut low = 0;
-    for _ in 0..MOST_TERMS {
+    for _ in 0..MOST_INPUTS {
         match term_at(rest, inputs, low) {
             Ok((term, after)) => {
                 terms.push(term)?;
@@ -123,7 +110,7 @@ fn sum_line_at(alloc: Global, bytes: &[u8], inputs: u64, node: u64) -> Read<'_, 
     let (constant, rest) = integer_field_at(rest, b" = lin ")?;
     let (terms, rest) = terms_at(alloc, rest, inputs)?;
     let rest = literal_at(rest, b"\n")?;
-    if constant.unsigned_abs() > 1 << 41 {
+    if constant.unsigned_abs() > MOST_CONSTANT {
         return no_circuit();
     }
     let sum = WeightedSum {
@@ -135,7 +122,7 @@ fn sum_line_at(alloc: Global, bytes: &[u8], inputs: u64, node: u64) -> Read<'_, 
 
 /// The lines of the sums over so many inputs.
 pub fn sums_at(alloc: Global, bytes: &[u8], inputs: u64) -> Read<'_, Vec<WeightedSum>>
-    requires { inputs ≤ 64 }
+    requires { inputs ≤ most_inputs }
     ensures { Gives (λ x. (x.0.items, x.1.now)) result (sums_at inputs bytes.now) }
 {
     let mut sums = Vec::new(alloc);

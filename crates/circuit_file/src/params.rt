@@ -5,18 +5,19 @@ ghost use Rattle.circuit_file.specs.CircuitReading.{glwe_at, lwe_at, gadget_at, 
 
 use crate::circuit::{Gadget, GlweChoice, LweChoice, Params};
 use crate::fault::CircuitFault;
+use crate::limits::{
+    MOST_BASE, MOST_DIGIT_BITS, MOST_ERROR, MOST_LOG_N, MOST_POLYNOMIALS, MOST_SMALL_DIMENSION,
+    MOST_WIDTH,
+};
 use crate::reading::{Read, literal_at, natural_field_at};
 use refusals::Refusal;
-
-/// The greatest error of a parameter line.
-const MOST_ERROR: u64 = (1 << 62) - 1;
 
 #[tactic(auto, unfolding(crate::specs::CircuitReading::glwe_at))]
 fn glwe_at(bytes: &[u8]) -> Read<'_, GlweChoice>
     ensures { Gives (λ x. (x.0, x.1.now)) result (glwe_at bytes.now) }
 {
-    let (k, rest) = natural_field_at(bytes, b"glwe ", 1, 3)?;
-    let (log_n, rest) = natural_field_at(rest, b" ", 1, 13)?;
+    let (k, rest) = natural_field_at(bytes, b"glwe ", 1, MOST_POLYNOMIALS)?;
+    let (log_n, rest) = natural_field_at(rest, b" ", 1, MOST_LOG_N)?;
     let (ones, rest) = natural_field_at(rest, b" ", 0, k * (1 << log_n))?;
     let (error, rest) = natural_field_at(rest, b" ", 0, MOST_ERROR)?;
     let rest = literal_at(rest, b"\n")?;
@@ -33,7 +34,7 @@ fn glwe_at(bytes: &[u8]) -> Read<'_, GlweChoice>
 fn lwe_at(bytes: &[u8]) -> Read<'_, LweChoice>
     ensures { Gives (λ x. (x.0, x.1.now)) result (lwe_at bytes.now) }
 {
-    let (n, rest) = natural_field_at(bytes, b"lwe ", 1, 1024)?;
+    let (n, rest) = natural_field_at(bytes, b"lwe ", 1, MOST_SMALL_DIMENSION)?;
     let (ones, rest) = natural_field_at(rest, b" ", 0, n)?;
     let (error, rest) = natural_field_at(rest, b" ", 0, MOST_ERROR)?;
     let rest = literal_at(rest, b"\n")?;
@@ -49,8 +50,8 @@ fn lwe_at(bytes: &[u8]) -> Read<'_, LweChoice>
 fn gadget_at<'a>(bytes: &'a [u8], name: &[u8]) -> Read<'a, Gadget>
     ensures { Gives (λ x. (x.0, x.1.now)) result (gadget_at name.now bytes.now) }
 {
-    let (base, rest) = natural_field_at(bytes, name, 1, 31)?;
-    let (level, rest) = natural_field_at(rest, b" ", 1, 63 / base)?;
+    let (base, rest) = natural_field_at(bytes, name, 1, MOST_BASE)?;
+    let (level, rest) = natural_field_at(rest, b" ", 1, MOST_DIGIT_BITS / base)?;
     let rest = literal_at(rest, b"\n")?;
     let gadget = Gadget {
         base: base as u32,
@@ -82,7 +83,7 @@ pub fn head_at(bytes: &[u8]) -> Result<(u32, Params, &[u8]), Refusal<CircuitFaul
     ensures { Gives (λ x. (x.0, x.1, x.2.now)) result (head_at bytes.now) }
 {
     let rest = literal_at(bytes, b"fhec circuit 1\n")?;
-    let (width, rest) = natural_field_at(rest, b"width ", 1, 16)?;
+    let (width, rest) = natural_field_at(rest, b"width ", 1, MOST_WIDTH)?;
     let rest = literal_at(rest, b"\n")?;
     let (params, rest) = params_at(rest)?;
     Ok((width as u32, params, rest))

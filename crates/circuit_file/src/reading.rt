@@ -1,21 +1,20 @@
 //! Words and numbers at the front of a text, each with the bytes after it.
 
-ghost use Rattle.std.specs.Prelude.{◌≡◌, ◌≤◌, ◌^◌, ◌<◌, length, not, position, IfOk};
+ghost use Rattle.std.specs.Prelude.{◌≡◌, ◌≤◌, ◌<◌, length, not, position, IfOk};
 ghost use Rattle.std.specs.Char.{is_ascii_digit};
 ghost use Rattle.std.specs.Str.Parse.{AllDigits};
 ghost use Rattle.refusals.specs.Reading.{Gives};
+ghost use Rattle.circuit_file.specs.Limits.{number_limit};
 ghost use Rattle.circuit_file.specs.Reading.{text_fault, literal_at};
 ghost use Rattle.circuit_file.specs.Numbers.{is_numeral, numeral_value, digit_count, natural_at, integer_at, natural_field_at, integer_field_at};
 
 use crate::fault::{CircuitFault, CircuitKind};
+use crate::limits::NUMBER_LIMIT;
 use refusals::Refusal;
 use std::str;
 
 /// A value at the front of a text, and the bytes after it.
 pub type Read<'a, T> = Result<(T, &'a [u8]), Refusal<CircuitFault>>;
-
-/// Every number of a text is below it.
-const LIMIT: u64 = 1 << 63;
 
 /// The refusal of a text that spells no circuit.
 pub fn no_circuit<T>() -> Result<T, Refusal<CircuitFault>>
@@ -50,7 +49,7 @@ fn is_numeral(digits: &[u8]) -> bool
 fn numeral_value(digits: &[u8]) -> Result<u64, Refusal<CircuitFault>>
     requires { AllDigits 10 digits.now }
     ensures value { Gives (λ value. value) result (numeral_value digits.now) }
-    ensures limit { IfOk result (λ value. value < 2 ^ 63) }
+    ensures limit { IfOk result (λ value. value < number_limit) }
 {
     if !is_numeral(digits) {
         return no_circuit();
@@ -59,7 +58,7 @@ fn numeral_value(digits: &[u8]) -> Result<u64, Refusal<CircuitFault>>
         return no_circuit();
     };
     match text.parse::<u64>() {
-        Ok(value) if value < LIMIT => Ok(value),
+        Ok(value) if value < NUMBER_LIMIT => Ok(value),
         _ => no_circuit(),
     }
 }
@@ -84,7 +83,7 @@ fn digit_count(bytes: &[u8]) -> usize
 #[tactic(auto, unfolding(crate::specs::Numbers::natural_at))]
 fn natural_at(bytes: &[u8]) -> Read<'_, u64>
     ensures value { Gives (λ x. (x.0, x.1.now)) result (natural_at bytes.now) }
-    ensures limit { IfOk result (λ x. x.0 < 2 ^ 63) }
+    ensures limit { IfOk result (λ x. x.0 < number_limit) }
 {
     let (digits, rest) = bytes.split_at(digit_count(bytes));
     let value = numeral_value(digits)?;

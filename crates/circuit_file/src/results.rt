@@ -1,12 +1,14 @@
 //! What is computed afresh of a circuit: the ranges and the noise bounds of its nodes, and the tests of them.
 
 ghost use Rattle.std.specs.Prelude.{◌≡◌, ◌≤◌, ◌<◌, ◌^◌, ◌*ℤ◌, length, unsigned_abs, All};
+ghost use Rattle.circuit_file.specs.Limits.{most_weight, most_inputs, most_width, error_limit};
 ghost use Rattle.circuit_file.specs.Ranges.{IsWithin};
 ghost use Rattle.std.specs.List.{list_all, list_any};
 ghost use Rattle.circuit_file.specs.Circuit.{IsRange, IsTerm, IsSum, least_of, greatest_of, node_count, range_of_sum, range_of_node, bound_of_sum, bound_of_node};
 ghost use Rattle.circuit_file.specs.CircuitReading.{KeepsLimits, is_same_range, fits_width, is_bound_kept, is_out_right, needs_width, are_results_right};
 
 use crate::circuit::{Circuit, Out, Params, Range, Term, WeightedSum};
+use crate::limits::BOUND_BITS;
 
 /// How many nodes there are.
 fn node_count(circuit: &Circuit) -> usize
@@ -18,7 +20,7 @@ fn node_count(circuit: &Circuit) -> usize
 
 /// The product of a weight and an end of an input's range.
 fn product(weight: i64, end: i64) -> i64
-    requires weight { unsigned_abs weight ≤ 2 ^ 40 }
+    requires weight { unsigned_abs weight ≤ most_weight }
     requires end { unsigned_abs end ≤ 2 ^ 16 }
     ensures value { result ≡ weight *ℤ end }
     ensures size { IsWithin (2 ^ 56) result }
@@ -60,7 +62,7 @@ fn greatest_of_term(inputs: &[Range], term: Term) -> i64
 
 /// The range of a sum: the constant and the ends of its terms.
 fn range_of_sum(inputs: &[Range], sum: &WeightedSum) -> Range
-    requires number { length inputs.now ≤ 64 }
+    requires number { length inputs.now ≤ most_inputs }
     requires inputs { All IsRange inputs.now }
     requires sum { IsSum (length inputs.now) sum.now }
     ensures { result ≡ range_of_sum inputs.now sum.now }
@@ -93,8 +95,8 @@ fn range_of_node(circuit: &Circuit, node: u32) -> Range
 
 /// The noise bound of a sum: the size of each weight times the bound of a fresh input.
 fn bound_of_sum(inputs: usize, params: &Params, sum: &WeightedSum) -> u128
-    requires number { inputs ≤ 64 }
-    requires error { params.now.glwe.error < 2 ^ 62 }
+    requires number { inputs ≤ most_inputs }
+    requires error { params.now.glwe.error < error_limit }
     requires sum { IsSum inputs sum.now }
     ensures { result ≡ bound_of_sum params.now sum.now }
 {
@@ -132,19 +134,19 @@ fn is_same_range(a: Range, b: Range) -> bool
 /// Whether `hi - lo` is below `2^width`.
 fn fits_width(range: Range, width: u32) -> bool
     requires range { IsRange range }
-    requires high { width ≤ 16 }
+    requires high { width ≤ most_width }
     ensures { result ≡ fits_width range width }
 {
     range.hi - range.lo < 1 << width
 }
 
-/// Whether the noise bound of the node is below `2^(62 - width)`.
+/// Whether the noise bound of the node is below its limit.
 fn is_bound_kept(circuit: &Circuit, node: u32) -> bool
     requires limits { KeepsLimits circuit.now }
     requires node { node < node_count circuit.now }
     ensures { result ≡ is_bound_kept circuit.now node }
 {
-    let limit: u64 = 1 << (62 - circuit.width);
+    let limit: u64 = 1 << (BOUND_BITS - circuit.width);
     bound_of_node(circuit, node) < u128::from(limit)
 }
 
@@ -178,7 +180,7 @@ fn are_outs_right(circuit: &Circuit) -> bool
 /// Whether an output needs the width: `hi - lo` is not below half of `2^width`.
 fn needs_width(width: u32, out: Out) -> bool
     requires low { 1 ≤ width }
-    requires high { width ≤ 16 }
+    requires high { width ≤ most_width }
     requires range { IsRange out.range }
     ensures { result ≡ needs_width width out }
 {
