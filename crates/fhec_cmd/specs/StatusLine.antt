@@ -5,10 +5,10 @@ use Rattle.fhec_cmd.specs.declared.status.Status.{Status}
 use Rattle.fhec_cmd.specs.declared.status.Status.TheVariants as status
 use Rattle.circuit_file.specs.declared.fault.CircuitKind.{CircuitKind}
 use Rattle.circuit_file.specs.declared.fault.CircuitKind.TheVariants as circuit_kind
-use Rattle.fhec_cmd.specs.declared.status.FileKind.{FileKind}
-use Rattle.fhec_cmd.specs.declared.status.FileKind.TheVariants as file_kind
-use Rattle.fhec_cmd.specs.declared.status.LimitName.{LimitName}
-use Rattle.fhec_cmd.specs.declared.status.LimitName.TheVariants as limit_name
+use Rattle.fhec_cmd.specs.declared.fault.FileKind.{FileKind}
+use Rattle.fhec_cmd.specs.declared.fault.FileKind.TheVariants as file_kind
+use Rattle.fhec_cmd.specs.declared.fault.LimitName.{LimitName}
+use Rattle.fhec_cmd.specs.declared.fault.LimitName.TheVariants as limit_name
 use Rattle.cipher_files.specs.declared.fault.FileFault.{FileFault}
 use Rattle.cipher_files.specs.declared.fault.FileFault.TheVariants as file_fault
 
