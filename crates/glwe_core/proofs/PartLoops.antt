@@ -169,21 +169,23 @@ clears new old kept each =
 
 -- ---- products and rotations
 
-zip_rows-mapped : (f : List ℕ → List ℕ → List ℕ) (g : List ℕ → List ℕ) (xs ys : List (List ℕ)) → zip_rows (λ x y. f x (g y)) xs ys ≡ zip_rows f xs (map g ys)
+pub zip_rows-mapped : (f : List ℕ → List ℕ → List ℕ) (g : List ℕ → List ℕ) (xs ys : List (List ℕ)) → zip_rows (λ x y. f x (g y)) xs ys ≡ zip_rows f xs (map g ys)
 zip_rows-mapped f g [] ys = refl
 zip_rows-mapped f g (x ∷ xs) [] = refl
 zip_rows-mapped f g (x ∷ xs) (y ∷ ys) = ap (λ rs. f x (g y) ∷ rs) (zip_rows-mapped f g xs ys)
 
 pub adds_products : ProductLaws → (p : List ℕ) (new old others : List (List ℕ)) → length new ≡ length old → lengths_of old ≡ lengths_of others → AllOfLength (length p) old → ((k : ℕ) → k < length old → get_or new k [] ≡ row_sum (get_or old k []) (negacyclic_product p (get_or others k []))) → (new ≡ plus_product old p others) × (lengths_of new ≡ lengths_of old)
-adds_products laws p new old others kept shape degree each =
-    (is_zip_rows (λ x y. row_sum x (negacyclic_product p y)) new old others kept shape each ∙ zip_rows-mapped row_sum (negacyclic_product p) old others,
-    lengths_are new old kept (λ k inside. ap length (each k inside) ∙ length-zip_words word_sum (get_or old k []) (negacyclic_product p (get_or others k [])) (laws.product_length p (get_or others k []) ∙ sym (degree k [] inside))))
+adds_products laws p new old others kept shape degree each = (
+  is_zip_rows (λ x y. row_sum x (negacyclic_product p y)) new old others kept shape each ∙ zip_rows-mapped row_sum (negacyclic_product p) old others,
+  lengths_are new old kept (λ k inside. ap length (each k inside) ∙ length-zip_words word_sum (get_or old k []) (negacyclic_product p (get_or others k [])) (laws.product_length p (get_or others k []) ∙ sym (degree k [] inside))),
+)
 
 pub rotates : RotationLaws → (by : ℕ) (new old others : List (List ℕ)) → length new ≡ length old → lengths_of old ≡ lengths_of others → ((k : ℕ) → k < length old → get_or new k [] ≡ rotation by (get_or others k [])) → (new ≡ rotated by others) × (lengths_of new ≡ lengths_of old)
 rotates laws by new old others kept shape each =
-    let number : length old ≡ length others = same_number old others shape in
-    (is_mapped (rotation by) new others (kept ∙ number) (λ k inside. each k (omega (arith, number, inside))),
-    lengths_are new old kept (λ k inside. ap length (each k inside) ∙ laws.rotation_length by (get_or others k []) ∙ sym (same_length_at old others k shape)))
+    let number : length old ≡ length others = same_number old others shape in (
+      is_mapped (rotation by) new others (kept ∙ number) (λ k inside. each k (omega (arith, number, inside))),
+      lengths_are new old kept (λ k inside. ap length (each k inside) ∙ laws.rotation_length by (get_or others k []) ∙ sym (same_length_at old others k shape)),
+    )
 
 -- ---- calls in a loop
 
