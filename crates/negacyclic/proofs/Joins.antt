@@ -1,5 +1,5 @@
 -- Rows that a loop has written, as operations on rows.
-use Rattle.std.proofs.Common.{◌≡◌, ℕ, ◌<◌, ◌≤◌, List, ◌++◌, length, get_or, arith, ap, sym, ◌∙◌}
+use Rattle.std.proofs.Common.{◌≡◌, ℕ, ◌<◌, List, ◌++◌, length, get_or, arith, ap, sym, ◌∙◌}
 use Rattle.std.proofs.lemmas.List.{ext_get_or}
 use Rattle.word_ring.specs.Words.{word_sum, word_difference}
 use Rattle.word_ring.specs.Rows.{zip_words, row_sum, row_difference, RowLaws}

@@ -5,7 +5,7 @@ use Rattle.std.proofs.Common.{mul_comm}
 use Rattle.std.specs.List.{All}
 use Rattle.std.proofs.lemmas.List.{length-replicate, ext_get_or, length-map, get_or-map}
 use Rattle.word_ring.specs.Words.{IsWord, word_sum, word_difference, word_product, word_negation}
-use Rattle.word_ring.specs.Rows.{row_sum, row_difference, scaled_row, RowLaws}
+use Rattle.word_ring.specs.Rows.{row_sum, row_difference, scaled_row, IsAdditive, RowLaws}
 use Rattle.negacyclic.specs.Product.{sum_below, negacyclic_product, monomial, rotation, coefficient}
 use Rattle.negacyclic.proofs.Sums.{sum-same}
 use Rattle.negacyclic.proofs.Signs.{minus_one, sign-same}
@@ -114,3 +114,12 @@ product_coefficient p q c e inside =
     let small : j % (2 * n) ≡ j = mod-eq_of_lt (omega arith) in
     ap (λ t. get_or q j 0 * t) (rotation_moves j p c inside ∙ ap (λ t. coefficient p (c + (2 * n - t))) small)
     ∙ mul_comm (get_or q j 0) (coefficient p (c + (2 * n - j)))))
+
+pub first_additive : RowLaws → (q : List ℕ) → IsAdditive (length q) (length q) (λ p. negacyclic_product p q)
+first_additive rows q = record { keeps_zero = zero_product q; keeps_sums = λ xs ys e f. polynomials.sum_product rows xs ys q (e ∙ sym f) f }
+
+pub second_additive : RowLaws → (p : List ℕ) → IsAdditive (length p) (length p) (negacyclic_product p)
+second_additive rows p = record { keeps_zero = product_zero p; keeps_sums = λ xs ys e f. polynomials.product_sum rows p xs ys (sym e) (e ∙ sym f) }
+
+pub rotation_additive : RowLaws → (by n : ℕ) → IsAdditive n n (rotation by)
+rotation_additive rows by n = record { keeps_zero = rotation_zero by n; keeps_sums = λ xs ys e f. rotation_sum rows by xs ys (e ∙ sym f) }

@@ -1,8 +1,8 @@
 -- The laws of polynomials modulo X^N + 1, as facts of the definitions alone, at every N from 1.
-use Rattle.std.specs.Prelude.{◌≡◌, ◌<◌, ◌≤◌, ℕ, ◌+◌, ◌-◌, ◌*◌, ◌%◌, ◌^◌, List, ◌∷◌, map, replicate, length, slice_index, All, sum, sum_by}
+use Rattle.std.specs.Prelude.{◌≡◌, ◌<◌, ℕ, ◌+◌, ◌-◌, ◌*◌, ◌%◌, ◌^◌, List, ◌∷◌, map, replicate, length, slice_index, All, sum, sum_by}
 use Rattle.std.specs.List.{range_with_len}
 use Rattle.word_ring.specs.Words.{IsWord, word_negation, size}
-use Rattle.word_ring.specs.Rows.{row_sum, row_difference, scaled_row}
+use Rattle.word_ring.specs.Rows.{row_sum, row_difference, scaled_row, IsAdditive, RowWithin}
 use Rattle.negacyclic.specs.Product.{sum_below, negacyclic_product, monomial, rotation, coefficient}
 
 -- polynomials are a commutative ring over the words
@@ -40,6 +40,10 @@ pub record ProductLaws : Type 0 where
   -- and so does one in the second
   pub product_scaled : (factor : ℕ) (p q : List ℕ) → length p ≡ length q →
       negacyclic_product p (scaled_row factor q) ≡ scaled_row factor (negacyclic_product p q)
+  -- so a product is additive in its first factor
+  pub first_additive : (q : List ℕ) → IsAdditive (length q) (length q) (λ p. negacyclic_product p q)
+  -- and in its second
+  pub second_additive : (p : List ℕ) → IsAdditive (length p) (length p) (negacyclic_product p)
   -- p times q is the sum over i of p_i times X^i * q
   pub product_by_rotations : (p q : List ℕ) → length p ≡ length q → (c : ℕ) → c < length p →
       slice_index (negacyclic_product p q) c ≡
@@ -88,7 +92,9 @@ pub record RotationLaws : Type 0 where
   -- into a multiple
   pub rotation_scaled : (by factor : ℕ) (p : List ℕ) →
       rotation by (scaled_row factor p) ≡ scaled_row factor (rotation by p)
-  -- and into either factor of a product
+  -- so it is additive
+  pub rotation_additive : (by n : ℕ) → IsAdditive n n (rotation by)
+  -- a rotation of a factor is one of the product, for either factor
   pub rotation_product : (by : ℕ) (p q : List ℕ) → length p ≡ length q →
       negacyclic_product (rotation by p) q ≡ rotation by (negacyclic_product p q)
   pub product_rotation : (by : ℕ) (p q : List ℕ) → length p ≡ length q →
@@ -104,18 +110,16 @@ pub record SumLaws : Type 0 where
 -- how products change the distances of the coefficients to 0
 pub record ProductSizeLaws : Type 0 where
   -- no coefficient of p times q is larger than the greatest of p times all of q together
-  pub product_size : (bound : ℕ) (p q : List ℕ) → length p ≡ length q → All (λ w. size w ≤ bound) p →
-      All (λ w. size w ≤ bound * sum_by size q) (negacyclic_product p q)
+  pub product_size : (bound : ℕ) (p q : List ℕ) → length p ≡ length q → RowWithin bound p →
+      RowWithin (bound * sum_by size q) (negacyclic_product p q)
   -- nor than N times the greatest of p times the greatest of q
-  pub product_bound : (bound most : ℕ) (p q : List ℕ) → length p ≡ length q → All (λ w. size w ≤ bound) p →
-      All (λ w. size w ≤ most) q → All (λ w. size w ≤ length q * (bound * most)) (negacyclic_product p q)
+  pub product_bound : (bound most : ℕ) (p q : List ℕ) → length p ≡ length q → RowWithin bound p →
+      RowWithin most q → RowWithin (length q * (bound * most)) (negacyclic_product p q)
   -- nor, where q is made of bits, than the number of its ones times the greatest of p
-  pub product_with_bits : (bound : ℕ) (p q : List ℕ) → length p ≡ length q → All (λ w. size w ≤ bound) p →
-      All (λ w. size w ≤ sum q * bound) (negacyclic_product p q)
+  pub product_with_bits : (bound : ℕ) (p q : List ℕ) → length p ≡ length q → RowWithin bound p →
+      RowWithin (sum q * bound) (negacyclic_product p q)
   -- a rotation keeps the size of the coefficient that it moves
-  pub rotation_size : (by : ℕ) (p : List ℕ) (c : ℕ) → c < length p →
-      size (slice_index (rotation by p) c) ≡
+  pub rotation_size : (by : ℕ) (p : List ℕ) (c : ℕ) → c < length p → size (slice_index (rotation by p) c) ≡
       size (slice_index p ((c + (2 * length p - by % (2 * length p))) % length p))
   -- so a bound on all sizes stays one
-  pub rotation_bound : (bound by : ℕ) (p : List ℕ) → All (λ w. size w ≤ bound) p →
-      All (λ w. size w ≤ bound) (rotation by p)
+  pub rotation_bound : (bound by : ℕ) (p : List ℕ) → RowWithin bound p → RowWithin bound (rotation by p)

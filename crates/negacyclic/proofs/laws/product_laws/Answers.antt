@@ -20,4 +20,6 @@ returns c = record {
   product_zero = rotated.product_zero;
   product_one = rotated.product_one;
   product_coefficient = rotated.product_coefficient;
+  first_additive = rotated.first_additive c.row_laws.ensures;
+  second_additive = rotated.second_additive c.row_laws.ensures;
 }

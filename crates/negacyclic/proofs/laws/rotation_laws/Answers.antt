@@ -22,4 +22,5 @@ returns c = record {
   rotation_scaled = rotated.rotation_scaled;
   rotation_product = rotated.rotation_product;
   product_rotation = rotated.product_rotation;
+  rotation_additive = rotated.rotation_additive c.row_laws.ensures;
 }
