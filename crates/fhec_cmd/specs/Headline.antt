@@ -15,7 +15,8 @@ use Rattle.fhec_cmd.specs.CommandLine.{RunWords, Request, run, faulty}
 use Rattle.fhec_cmd.specs.Outside.{Outside}
 use Rattle.fhec_cmd.specs.Run.{is_input_of, output_file}
 
--- the bytes of a file, which are the one spelling of these ciphertexts and keep the limit of such files, are read as them
+-- the bytes of a file, which are the one spelling of these ciphertexts and keep the limit of such files, are read as
+-- them
 pub record Spells (files : Files) (name : Bytes) (file : CiphertextFile) : Type 0 where
   pub held : get files name ≡ Some (ciphertext_bytes file)
   pub spelled : ciphertext_file_of (ciphertext_bytes file) ≡ Ok file
@@ -38,8 +39,11 @@ pub record RunIsRight (words : RunWords) (before after : Files) : Type 0 where
   pub fitting : is_input_of circuit inputs ≡ true
   -- OUTPUT holds the words of evaluation, under the outputs' own ranges
   pub written : Spells after words.output (output_file circuit inputs)
-  -- and for every secret key of the circuit's dimensions, all values in the input ranges, and inputs that stand for them within the error of fresh ciphertexts, each of the output's ciphertexts stands for its value on whole numbers within its bound, and decodes to it over its range's least number
-  pub right : (big small : List Bool) (values : List ℤ) → AreGood circuit big small values inputs.ciphertexts → AreRight circuit big circuit.outs (output_file circuit inputs).ciphertexts (clear_values circuit values)
+  -- and for every secret key of the circuit's dimensions, all values in the input ranges, and inputs that stand for
+  -- them within the error of fresh ciphertexts, each of the output's ciphertexts stands for its value on whole numbers
+  -- within its bound, and decodes to it over its range's least number
+  pub right : (big small : List Bool) (values : List ℤ) → AreGood circuit big small values inputs.ciphertexts
+      → AreRight circuit big circuit.outs (output_file circuit inputs).ciphertexts (clear_values circuit values)
 
 -- what the answer Ok of a command promises, over a store that tells its files
 abbrev pub Promise : Request → Files → Files → Type 0
@@ -48,4 +52,6 @@ Promise faulty before after = Unit {0}
 
 -- the headline: what the answer Ok promises, over the outside before and after
 abbrev pub Headline : Request → Status → Outside → Outside → Type 0
-Headline request answer before after = answer ≡ status.Ok → (files now : Files) → before.store.files ≡ Some files → after.store.files ≡ Some now → Promise request files now
+Headline request answer before after =
+    answer ≡ status.Ok → (files now : Files) → before.store.files ≡ Some files → after.store.files ≡ Some now
+    → Promise request files now

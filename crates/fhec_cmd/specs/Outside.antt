@@ -3,12 +3,13 @@ use Rattle.std.specs.Prelude.{◌≡◌, ℕ, ◌<◌, List, [], ◌∷◌, ◌+
 use Rattle.std.specs.FinMap.{get, insert}
 use Rattle.port_store.specs.Files.{Bytes, Files, Told, IsPut, MayBePut, MayBeWritten}
 use Rattle.port_store.specs.Faults.{Rises}
-use Rattle.port_store.specs.Shown.{Shown}
+use Rattle.port_store.specs.Shown.{Shown, Accounts}
 use Rattle.fhec_cmd.specs.declared.status.Status.{Status}
 use Rattle.fhec_cmd.specs.declared.status.Status.TheVariants as status
 use Rattle.fhec_cmd.specs.Outcome.{FileWrite, Outcome, written}
 
--- a store at a moment: its files where it tells them, what it has shown where it keeps account, and its counts of faults
+-- a store at a moment: its files where it tells them, what it has shown where it keeps account, and its counts of
+-- faults
 pub record StoreAt : Type 0 where
   pub files : Option Files
   pub shown : Option (List Shown)
@@ -23,7 +24,12 @@ pub record Outside : Type 0 where
 
 -- a store as its members tell it
 abbrev pub store_at : {S : Type 0} → (S → Option Files) → (S → Option (List Shown)) → (S → ℕ) → (S → ℕ) → S → StoreAt
-store_at files shown read_faults write_faults store = record { files = files store; shown = shown store; read_faults = read_faults store; write_faults = write_faults store }
+store_at files shown read_faults write_faults store = record {
+  files = files store;
+  shown = shown store;
+  read_faults = read_faults store;
+  write_faults = write_faults store;
+}
 
 -- a store and a sink as their members tell them
 abbrev pub outside : {O : Type 0} → StoreAt → (O → Option Bytes) → (O → ℕ) → O → Outside
@@ -33,7 +39,8 @@ outside store taken put_faults sink = record { store = store; taken = taken sink
 
 -- the file of that name has the length that was shown, and begins with the bytes that were
 abbrev pub IsAsShown : Files → Shown → Type 0
-IsAsShown files shown = MatchOption (get files shown.name) ⊥ (λ bytes. (length bytes ≡ shown.size) × (take (length shown.bytes) bytes ≡ shown.bytes))
+IsAsShown files shown = MatchOption (get files shown.name) ⊥
+    (λ bytes. (length bytes ≡ shown.size) × (take (length shown.bytes) bytes ≡ shown.bytes))
 
 -- and so has each file that was shown
 abbrev pub AreAsShown : Files → List Shown → Type 0
@@ -51,7 +58,7 @@ pub record MayHold (told : Option Files) (account : List Shown) (files : Files) 
 
 -- what was shown between two moments, where a store keeps account
 abbrev pub Showed : List Shown → StoreAt → StoreAt → Type 0
-Showed account before after = (earlier : List Shown) → before.shown ≡ Some earlier → after.shown ≡ Some (account ++ earlier)
+Showed account before after = Accounts (λ earlier. account ++ earlier) before.shown after.shown
 
 -- ---- what was done of an outcome
 
@@ -87,7 +94,8 @@ Failed answer before after = ((answer ≡ status.Write) × Rises before after) �
 -- one of the writes was cut off: those before it are whole, and those after it as they were
 abbrev pub IsCut : List FileWrite → Files → Files → Type 0
 IsCut [] before after = ⊥
-IsCut (write ∷ writes) before after = MayBeWritten write.name write.bytes before after ⊎ IsCut writes (insert before write.name write.bytes) after
+IsCut (write ∷ writes) before after =
+    MayBeWritten write.name write.bytes before after ⊎ IsCut writes (insert before write.name write.bytes) after
 
 -- there is something to write
 abbrev pub HasWrites : List FileWrite → Type 0
@@ -110,11 +118,14 @@ pub record IsCutInPut (outcome : Outcome) (answer : Status) (before after : Outs
 
 -- the outcome was done, whole or up to a cut
 abbrev pub Ends : Outcome → Status → Outside → Outside → Type 0
-Ends outcome answer before after = IsDone outcome answer before after ⊎ (IsCutInFile outcome answer before after ⊎ IsCutInPut outcome answer before after)
+Ends outcome answer before after =
+    IsDone outcome answer before after
+    ⊎ (IsCutInFile outcome answer before after ⊎ IsCutInPut outcome answer before after)
 
 -- ---- what a command may leave
 
--- The command came to an outcome: there are files that the store may hold, given what it showed, and whichever of these it held, the outcome over them was done.
+-- The command came to an outcome: there are files that the store may hold, given what it showed, and whichever of these
+-- it held, the outcome over them was done.
 pub record CameToOutcome (outcome_of : Files → Outcome) (answer : Status) (before after : Outside) : Type 0 where
   pub account : List Shown
   pub showed : Showed account before.store after.store
@@ -125,15 +136,20 @@ pub record CameToOutcome (outcome_of : Files → Outcome) (answer : Status) (bef
 -- a call that reads failed, which its count tells, or memory ran out, before anything was written or put
 pub record WasCut (answer : Status) (before after : Outside) : Type 0 where
   pub untouched : IsUntouched before after
-  pub cause : ((answer ≡ status.Read) × Rises before.store.read_faults after.store.read_faults) ⊎ (answer ≡ status.Memory)
+  pub cause : ((answer ≡ status.Read) × Rises before.store.read_faults after.store.read_faults)
+      ⊎ (answer ≡ status.Memory)
 
 -- a fault of reading is never passed over, and comes before anything is written
 abbrev pub TellsReadFault : Status → Outside → Outside → Type 0
-TellsReadFault answer before after = before.store.read_faults < after.store.read_faults → ((answer ≡ status.Read) ⊎ (answer ≡ status.Memory)) × IsUntouched before after
+TellsReadFault answer before after =
+    before.store.read_faults < after.store.read_faults
+    → ((answer ≡ status.Read) ⊎ (answer ≡ status.Memory)) × IsUntouched before after
 
 -- a fault of writing is never passed over
 abbrev pub TellsWriteFault : Status → Outside → Outside → Type 0
-TellsWriteFault answer before after = (before.store.write_faults < after.store.write_faults) ⊎ (before.put_faults < after.put_faults) → (answer ≡ status.Write) ⊎ (answer ≡ status.Memory)
+TellsWriteFault answer before after =
+    (before.store.write_faults < after.store.write_faults) ⊎ (before.put_faults < after.put_faults)
+    → (answer ≡ status.Write) ⊎ (answer ≡ status.Memory)
 
 -- what a command may answer and leave, whatever the store and the sink do
 pub record MayLeave (outcome_of : Files → Outcome) (answer : Status) (before after : Outside) : Type 0 where

@@ -26,15 +26,24 @@ abbrev pub are_input_ranges : List Range → List (ℤ × ℤ) → Bool
 are_input_ranges [] [] = true
 are_input_ranges [] (range ∷ ranges) = false
 are_input_ranges (input ∷ inputs) [] = false
-are_input_ranges (input ∷ inputs) (range ∷ ranges) = (int_eq range.0 input.lo && int_eq range.1 input.hi) && are_input_ranges inputs ranges
+are_input_ranges (input ∷ inputs) (range ∷ ranges) =
+    (int_eq range.0 input.lo && int_eq range.1 input.hi) && are_input_ranges inputs ranges
 
 -- the file holds the inputs of the circuit: made for its parameters, its dimension, its width and its ranges
 abbrev pub is_input_of : Circuit → CiphertextFile → Bool
-is_input_of c file = bytes_eq file.digest (params_digest c.params) && (file.dim == dimension c.params && (file.width == c.width && are_input_ranges c.inputs file.ranges))
+is_input_of c file =
+    bytes_eq file.digest (params_digest c.params)
+    && (file.dim == dimension c.params && (file.width == c.width && are_input_ranges c.inputs file.ranges))
 
 -- the file of the outputs
 abbrev pub output_file : Circuit → CiphertextFile → CiphertextFile
-output_file c file = record { digest = file.digest; dim = file.dim; width = file.width; ranges = map (λ o. (o.range.lo, o.range.hi)) c.outs; ciphertexts = output_rows c file.ciphertexts }
+output_file c file = record {
+  digest = file.digest;
+  dim = file.dim;
+  width = file.width;
+  ranges = map (λ o. (o.range.lo, o.range.hi)) c.outs;
+  ciphertexts = output_rows c file.ciphertexts;
+}
 
 -- the circuit in a file
 unfoldable pub circuit_from : Bytes → Files → Result Circuit Fault

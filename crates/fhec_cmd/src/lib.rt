@@ -33,7 +33,8 @@ pub fn fhec<S: Store, O: Sink>(
     out: &mut O,
 ) -> Status
     // Words that are no command are answered with Usage, and leave the store and the sink as they were.
-    ensures usage { request_of (map string_bytes words.now) ≡ faulty → (result ≡ Status.Usage) × (store.new ≡ store.old) × (out.new ≡ out.old) }
+    ensures usage { request_of (map string_bytes words.now) ≡ faulty
+        → (result ≡ Status.Usage) × (store.new ≡ store.old) × (out.new ≡ out.old) }
     // What is answered and what is left, whatever the store and the sink do.
     ensures outcome { MayLeave (outcome_of (map string_bytes words.now)) result
         (outside (store_at S.files S.shown S.read_faults S.write_faults store.old) O.taken O.put_faults out.old)

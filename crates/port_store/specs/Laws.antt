@@ -8,6 +8,7 @@ pub record FilesLaws : Type 0 where
   -- the file that was put is there
   pub put_is_there : (files : Files) (name bytes : Bytes) → get (insert files name bytes) name ≡ Some bytes
   -- files of other names stay
-  pub others_stay : (files : Files) (name bytes other : Bytes) → bytes_eq other name ≡ false → get (insert files name bytes) other ≡ get files other
+  pub others_stay : (files : Files) (name bytes other : Bytes) → bytes_eq other name ≡ false
+      → get (insert files name bytes) other ≡ get files other
   -- to put a file that is there is to change nothing
   pub put_again : (files : Files) (name bytes : Bytes) → get files name ≡ Some bytes → insert files name bytes ≡ files

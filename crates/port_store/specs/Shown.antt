@@ -1,5 +1,5 @@
 -- What a store has shown of its files.
-use Rattle.std.specs.Prelude.{ℕ, ◌==◌, ◌&&◌, if◌then◌else◌, List, [], ◌∷◌, ◌++◌, length, take, Result, Ok, Err}
+use Rattle.std.specs.Prelude.{◌≡◌, ℕ, ◌==◌, ◌&&◌, if◌then◌else◌, List, [], ◌∷◌, ◌++◌, length, take, Option, Some, Result, Ok, Err}
 use Rattle.std.specs.Str.{bytes_eq}
 use Rattle.port_store.specs.Files.{Bytes}
 use Rattle.port_store.specs.declared.fault.PortFault.{PortFault}
@@ -18,7 +18,11 @@ sized name size = record { name = name; bytes = []; size = size }
 abbrev pub whole : Bytes → Bytes → Shown
 whole name bytes = record { name = name; bytes = bytes; size = length bytes }
 
--- the account after a call of `size`, the newest first
+-- how a call changes an account, where one is kept; the newest stands first
+abbrev pub Accounts : (List Shown → List Shown) → Option (List Shown) → Option (List Shown) → Type 0
+Accounts step before after = (account : List Shown) → before ≡ Some account → after ≡ Some (step account)
+
+-- the account after a call of `size`
 abbrev pub after_size : Bytes → Result ℕ PortFault → List Shown → List Shown
 after_size name (Ok size) account = sized name size ∷ account
 after_size name (Err fault) account = account
@@ -31,9 +35,11 @@ continued shown (byte ∷ bytes) = record shown { bytes = shown.bytes ++ byte �
 -- the account after bytes came from a place on: they are kept where they go on from those shown last
 abbrev pub after_piece : Bytes → ℕ → Bytes → List Shown → List Shown
 after_piece name at piece [] = []
-after_piece name at piece (shown ∷ account) = (if bytes_eq shown.name name && length shown.bytes == at then continued shown piece else shown) ∷ account
+after_piece name at piece (shown ∷ account) =
+    (if bytes_eq shown.name name && length shown.bytes == at then continued shown piece else shown) ∷ account
 
 -- the account after a call of `read_at`, which says nothing where the buffer had no room
 abbrev pub after_read_at : Bytes → ℕ → Bytes → Result ℕ PortFault → List Shown → List Shown
 after_read_at name at buffer (Err fault) account = account
-after_read_at name at buffer (Ok count) account = if length buffer == 0 then account else after_piece name at (take count buffer) account
+after_read_at name at buffer (Ok count) account =
+    if length buffer == 0 then account else after_piece name at (take count buffer) account

@@ -133,7 +133,8 @@ impl Store for MemStore {
         ensures no_write { self.new.write_faults ≡ self.old.write_faults }
         ensures size { IfOk result (λ size. OfFile (Some self.old.files) name.now (λ bytes. size ≡ length bytes)) }
         ensures ok { OnOk result (self.new.read_faults ≡ self.old.read_faults) }
-        ensures failed { IsErrOf result PortFault.Failed → MayHold (Some self.old.files) name.now → Rises self.old.read_faults self.new.read_faults }
+        ensures failed { IsErrOf result PortFault.Failed → MayHold (Some self.old.files) name.now
+            → Rises self.old.read_faults self.new.read_faults }
         ensures missing { IsMissing (Some self.old.files) name.now → self.new.read_faults ≡ self.old.read_faults }
     {
         let listed = self.next_read(name);
@@ -154,7 +155,8 @@ impl Store for MemStore {
         ensures room { IfOk result (λ count. count ≤ length buffer.old) }
         ensures copied { IfOk result (λ count. OfFile (Some self.old.files) name.now (λ bytes. Copies bytes at buffer.new count)) }
         ensures ok { OnOk result (self.new.read_faults ≡ self.old.read_faults) }
-        ensures failed { IsErrOf result PortFault.Failed → MayHold (Some self.old.files) name.now → Rises self.old.read_faults self.new.read_faults }
+        ensures failed { IsErrOf result PortFault.Failed → MayHold (Some self.old.files) name.now
+            → Rises self.old.read_faults self.new.read_faults }
         ensures missing { IsMissing (Some self.old.files) name.now → self.new.read_faults ≡ self.old.read_faults }
     {
         let listed = self.next_read(name);
@@ -191,7 +193,8 @@ impl Store for MemStore {
         ensures appended { OnOk result (Told (IsAppended name.now bytes.now) (Some self.old.files) (Some self.new.files)) }
         ensures ok { OnOk result (self.new.write_faults ≡ self.old.write_faults) }
         ensures err { OnErr result (Told (MayBeAppended name.now bytes.now) (Some self.old.files) (Some self.new.files)) }
-        ensures failed { IsErrOf result PortFault.Failed → MayHold (Some self.old.files) name.now → Rises self.old.write_faults self.new.write_faults }
+        ensures failed { IsErrOf result PortFault.Failed → MayHold (Some self.old.files) name.now
+            → Rises self.old.write_faults self.new.write_faults }
         ensures missing { IsMissing (Some self.old.files) name.now → self.new.write_faults ≡ self.old.write_faults }
     {
         let listed = self.next_call();

@@ -1,9 +1,9 @@
 //! A store of files.
 
-ghost use Rattle.std.specs.Prelude.{◌≡◌, ◌≤◌, ℕ, length, List, Option, Some, IfOk, OnOk, OnErr, IsErrOf};
+ghost use Rattle.std.specs.Prelude.{◌≡◌, ◌≤◌, ℕ, length, List, Option, IfOk, OnOk, OnErr, IsErrOf};
 ghost use Rattle.port_store.specs.Files.{Files, Told, MayHold, IsMissing, OfFile, Copies, IsCreated, MayBeCreated, IsAppended, MayBeAppended};
 ghost use Rattle.port_store.specs.Faults.{Rises};
-ghost use Rattle.port_store.specs.Shown.{Shown, after_size, after_read_at};
+ghost use Rattle.port_store.specs.Shown.{Shown, Accounts, after_size, after_read_at};
 
 use crate::fault::PortFault;
 
@@ -30,9 +30,10 @@ pub trait Store {
         ensures never_fall { read_faults self.old ≤ read_faults self.new }
         ensures no_write { write_faults self.new ≡ write_faults self.old }
         ensures size { IfOk result (λ size. OfFile (files self.old) name.now (λ bytes. size ≡ length bytes)) }
-        ensures account { (account : List Shown) → shown self.old ≡ Some account → shown self.new ≡ Some (after_size name.now result account) }
+        ensures account { Accounts (after_size name.now result) (shown self.old) (shown self.new) }
         ensures ok { OnOk result (read_faults self.new ≡ read_faults self.old) }
-        ensures failed { IsErrOf result PortFault.Failed → MayHold (files self.old) name.now → Rises (read_faults self.old) (read_faults self.new) }
+        ensures failed { IsErrOf result PortFault.Failed → MayHold (files self.old) name.now
+            → Rises (read_faults self.old) (read_faults self.new) }
         ensures missing { IsMissing (files self.old) name.now → read_faults self.new ≡ read_faults self.old };
 
     /// Copies bytes of a file, from a place on, to the front of the buffer, and answers how many. What the
@@ -43,9 +44,10 @@ pub trait Store {
         ensures no_write { write_faults self.new ≡ write_faults self.old }
         ensures room { IfOk result (λ count. count ≤ length buffer.old) }
         ensures copied { IfOk result (λ count. OfFile (files self.old) name.now (λ bytes. Copies bytes at buffer.new count)) }
-        ensures account { (account : List Shown) → shown self.old ≡ Some account → shown self.new ≡ Some (after_read_at name.now at buffer.new result account) }
+        ensures account { Accounts (after_read_at name.now at buffer.new result) (shown self.old) (shown self.new) }
         ensures ok { OnOk result (read_faults self.new ≡ read_faults self.old) }
-        ensures failed { IsErrOf result PortFault.Failed → MayHold (files self.old) name.now → Rises (read_faults self.old) (read_faults self.new) }
+        ensures failed { IsErrOf result PortFault.Failed → MayHold (files self.old) name.now
+            → Rises (read_faults self.old) (read_faults self.new) }
         ensures missing { IsMissing (files self.old) name.now → read_faults self.new ≡ read_faults self.old };
 
     /// Makes a file, or empties it. After an `Err` it is as it was, or empty.
@@ -67,6 +69,7 @@ pub trait Store {
         ensures appended { OnOk result (Told (IsAppended name.now bytes.now) (files self.old) (files self.new)) }
         ensures ok { OnOk result (write_faults self.new ≡ write_faults self.old) }
         ensures err { OnErr result (Told (MayBeAppended name.now bytes.now) (files self.old) (files self.new)) }
-        ensures failed { IsErrOf result PortFault.Failed → MayHold (files self.old) name.now → Rises (write_faults self.old) (write_faults self.new) }
+        ensures failed { IsErrOf result PortFault.Failed → MayHold (files self.old) name.now
+            → Rises (write_faults self.old) (write_faults self.new) }
         ensures missing { IsMissing (files self.old) name.now → write_faults self.new ≡ write_faults self.old };
 }
