@@ -15,7 +15,8 @@ part_factors n key = map (λ bits. map word_negation (bit_words bits)) key ++ mo
 
 -- the message of the row of part j at place t: the bit times the place's weight times what the part counts
 abbrev pub row_message : ℕ → List (List Bool) → Bool → ℕ → ℕ → ℕ → List ℕ
-row_message n key bit base j t = scaled_row (bit_word bit) (scaled_row (place_weight base t) (slice_index_or (part_factors n key) j []))
+row_message n key bit base j t =
+    scaled_row (bit_word bit) (scaled_row (place_weight base t) (slice_index_or (part_factors n key) j []))
 
 -- the rows fit a bit: the phase of each, of n coefficients, is its message plus an error of at most `bound` in size
 pub record GgswFits (n bound : ℕ) (key : List (List Bool)) (bit : Bool) (g : GgswRows) : Type 0 where
@@ -35,18 +36,29 @@ digits_noise ones base level = (1 + ones) * 2 ^ (63 - base * level)
 
 -- what a product with a GGSW of a bit adds to a phase: the rows' errors, and for the bit 1 that of rounding
 abbrev pub product_noise : ℕ → ℕ → ℕ → List (List Bool) → Bool → GgswRows → ℕ
-product_noise n ones bound key bit g = rows_noise (length key + 1) g.level n g.base bound + bit_word bit * digits_noise ones g.base g.level
+product_noise n ones bound key bit g =
+    rows_noise (length key + 1) g.level n g.base bound + bit_word bit * digits_noise ones g.base g.level
 
--- the noise of external products and of CMuxes
+-- the phase of `product` is the bit times that of c, but for the noise, for every key and bit that the rows fit
+abbrev pub MultipliesPhase : GgswRows → List (List ℕ) → List (List ℕ) → Type 0
+MultipliesPhase g c product =
+    (n ones bound : ℕ) (key : List (List Bool)) (bit : Bool)
+    → GgswFits n bound key bit g → ones_of (flat_key_of key) ≤ ones → FitsGlweKey n key c
+    → RowWithin (product_noise n ones bound key bit g)
+    (row_difference (glwe_phase key product) (scaled_row (bit_word bit) (glwe_phase key c)))
+
+-- the phase of `selected` is that of `other` where the bit is 1, else that of acc, but for the noise
+abbrev pub SelectsPhase : GgswRows → List (List ℕ) → List (List ℕ) → List (List ℕ) → Type 0
+SelectsPhase g acc other selected =
+    (n ones bound : ℕ) (key : List (List Bool)) (bit : Bool)
+    → GgswFits n bound key bit g → ones_of (flat_key_of key) ≤ ones
+    → FitsGlweKey n key acc → FitsGlweKey n key other
+    → RowWithin (product_noise n ones bound key bit g)
+    (row_difference (glwe_phase key selected) (glwe_phase key (if bit then other else acc)))
+
+-- the noise of products with GGSW ciphertexts
 pub record GgswNoiseLaws : Type 0 where
-  -- the phase of the product is the bit times that of the ciphertext, but for the noise
-  pub external_noise : (n ones bound : ℕ) (key : List (List Bool)) (bit : Bool) (g : GgswRows) (c : List (List ℕ))
-      → GgswFits n bound key bit g → ones_of (flat_key_of key) ≤ ones → FitsGlweKey n key c
-      → RowWithin (product_noise n ones bound key bit g)
-      (row_difference (glwe_phase key (external_product g c)) (scaled_row (bit_word bit) (glwe_phase key c)))
-  -- that of a CMux is the phase that the bit selects, but for the same
-  pub cmux_noise : (n ones bound : ℕ) (key : List (List Bool)) (bit : Bool) (g : GgswRows) (acc other : List (List ℕ))
-      → GgswFits n bound key bit g → ones_of (flat_key_of key) ≤ ones
-      → FitsGlweKey n key acc → FitsGlweKey n key other
-      → RowWithin (product_noise n ones bound key bit g)
-      (row_difference (glwe_phase key (cmux_of g acc other)) (glwe_phase key (if bit then other else acc)))
+  -- an external product multiplies the phase with the bit
+  pub external_noise : (g : GgswRows) (c : List (List ℕ)) → MultipliesPhase g c (external_product g c)
+  -- and CMux selects by it
+  pub cmux_noise : (g : GgswRows) (acc other : List (List ℕ)) → SelectsPhase g acc other (cmux_of g acc other)

@@ -7,6 +7,7 @@
 #![tactic(auto)]
 
 mod ggsw;
+pub mod laws;
 mod products;
 #[cfg(test)]
 mod tests;

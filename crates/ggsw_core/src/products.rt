@@ -3,8 +3,10 @@
 ghost use Rattle.std.specs.Prelude.{◌≡◌, ◌+◌, ◌<◌, ◌≤◌, ◌^◌, ℕ, List, IfOk, length, replicate};
 ghost use Rattle.glwe_core.specs.Glwe.{lengths_of, degree_of};
 ghost use Rattle.ggsw_core.specs.Ggsw.{row_lengths, plus_all, part_products, all_products, external_product, cmux_of};
+ghost use Rattle.ggsw_core.specs.Noise.{MultipliesPhase, SelectsPhase};
 
 use crate::ggsw::Ggsw;
+use crate::laws;
 use gadget_decomp::poly_digit_into;
 use glwe_core::{Glwe, add_product};
 use negacyclic::{Poly, Scratch};
@@ -98,11 +100,15 @@ fn add_external(into: &mut Glwe, g: &Ggsw, c: &Glwe, digit: &mut Poly, scratch: 
 
 /// Sets `out` to the external product of `g` and `c` (Chillotti et al. 2020): the sum over the rows of the digit
 /// polynomial of their part and place times the row. All have one shape. It takes no memory.
+///
+/// Under every key that the rows of `g` fit with a bit, the phase is the bit times that of `c`, but for a noise that
+/// the rows' errors and the rounding to digits bound.
 pub fn external_into(out: &mut Glwe, g: &Ggsw, c: &Glwe, room: &mut ExtRoom)
     requires out { lengths_of out.old ≡ lengths_of c.now }
     requires rows { row_lengths g.now ≡ lengths_of c.now }
     requires room { room.old ≡ lengths_of c.now }
     ensures words { out.new ≡ external_product g.now c.now }
+    ensures noise { MultipliesPhase g.now c.now out.new }
     ensures shape { lengths_of out.new ≡ lengths_of out.old }
     ensures room_stays { room.new ≡ room.old }
 {
@@ -110,24 +116,29 @@ pub fn external_into(out: &mut Glwe, g: &Ggsw, c: &Glwe, room: &mut ExtRoom)
     g.known();
     word_ring::laws::laws();
     negacyclic::laws::laws();
+    laws::laws();
     out.zero_assign();
     add_external(out, g, c, &mut room.digit, &mut room.scratch);
 }
 
-/// CMux (Chillotti et al. 2020): adds to `acc` the external product of `g` and what `other` has more. With `g` of the
-/// bit 1 `acc` comes to stand for what `other` stands for, and with the bit 0 it stays. All have one shape. It takes
-/// no memory.
+/// CMux (Chillotti et al. 2020): adds to `acc` the external product of `g` and what `other` has more. All have one
+/// shape. It takes no memory.
+///
+/// Under every key that the rows of `g` fit with a bit, the phase is that of `other` where the bit is 1, and else that
+/// of `acc` before, but for the noise of the external product.
 pub fn cmux_into(acc: &mut Glwe, g: &Ggsw, other: &Glwe, room: &mut ExtRoom)
     requires other { lengths_of other.now ≡ lengths_of acc.old }
     requires rows { row_lengths g.now ≡ lengths_of acc.old }
     requires room { room.old ≡ lengths_of acc.old }
     ensures words { acc.new ≡ cmux_of g.now acc.old other.now }
+    ensures noise { SelectsPhase g.now acc.old other.now acc.new }
     ensures shape { lengths_of acc.new ≡ lengths_of acc.old }
     ensures room_stays { room.new ≡ room.old }
 {
     other.known();
     word_ring::laws::laws();
     negacyclic::laws::laws();
+    laws::laws();
     room.more.zero_assign();
     room.more.add_assign(other);
     room.more.sub_assign(acc);

@@ -1,10 +1,11 @@
-use Rattle.std.proofs.Common.{ap, sym, ◌∙◌, ◌≡◌, List, ℕ}
+use Rattle.std.proofs.Common.{ap, sym, subst, ◌∙◌, ◌≡◌, List, ℕ}
 use Rattle.word_ring.specs.Rows.{row_sum, row_difference, zip_rows}
 use Rattle.glwe_core.specs.Glwe.{lengths_of}
 use Rattle.ggsw_core.specs.Ggsw.{plus_all, all_products}
 use Rattle.ggsw_core.proofs.Additions.{Adding}
 use Rattle.ggsw_core.proofs.Rows.{shape_by_lengths}
 use Rattle.ggsw_core.proofs.Steps.{copied, to_acc}
+use Rattle.ggsw_core.specs.Noise.{SelectsPhase}
 use Rattle.ggsw_core.proofs.products.cmux_into.Goals as goal
 
 pub returns-clause-words : goal.returns-clause-words
@@ -22,3 +23,6 @@ returns-clause-words c =
     ∙ ap (λ x. plus_all acc (all_products c.args.g.now x)) more_is
     ∙ to_acc laws c.args.g.now acc other (shape_by_lengths other acc (sym c.requires.other) c.known.ensures.shape)
     (ap lengths_of (sym more_is) ∙ c.sub_assign.ensures.shape ∙ c.add_assign.ensures.shape ∙ c.zero_assign.ensures.shape ∙ room)
+
+pub returns-clause-noise : goal.returns-clause-noise
+returns-clause-noise c = subst (SelectsPhase c.args.g.now c.args.acc.now c.args.other.now) (sym (returns-clause-words c)) (c.laws-3.ensures.cmux_noise c.args.g.now c.args.acc.now c.args.other.now)
