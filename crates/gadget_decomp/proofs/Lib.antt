@@ -3,3 +3,4 @@ pub mod Decompositions
 pub mod DigitSizes
 pub mod Machine
 pub mod Polynomials
+pub mod Examples

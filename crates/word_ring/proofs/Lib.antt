@@ -5,3 +5,4 @@ pub mod SignedParts
 pub mod RowLoops
 pub mod RowRing
 pub mod RowTotals
+pub mod Examples

@@ -89,6 +89,13 @@ sum_zero (x ∷ xs) fit =
     let same : (x + 0) % 2 ^ 64 ≡ x = omega arith in
     ap (λ w. w ∷ row_sum xs (replicate (length xs) 0)) same ∙ ap (λ ws. x ∷ ws) (sum_zero xs (All-tail IsWord x xs fit))
 
+difference_zero : (xs : List ℕ) → All IsWord xs → row_difference xs (replicate (length xs) 0) ≡ xs
+difference_zero [] fit = refl
+difference_zero (x ∷ xs) fit =
+    let small : x < 2 ^ 64 = All-head IsWord x xs fit in
+    let same : word_difference x 0 ≡ x = omega arith in
+    ap (λ w. w ∷ row_difference xs (replicate (length xs) 0)) same ∙ ap (λ ws. x ∷ ws) (difference_zero xs (All-tail IsWord x xs fit))
+
 difference_same : (xs : List ℕ) → row_difference xs xs ≡ replicate (length xs) 0
 difference_same [] = refl
 difference_same (x ∷ xs) =
@@ -130,6 +137,9 @@ product_difference factor x y =
     ∙ ap (word_sum (word_product factor x)) (c factor (word_negation y) ∙ ring.negation_product y factor ∙ ap word_negation (c y factor))
     ∙ sym (ring.difference_is (word_product factor x) (word_product factor y))
 
+subtracted_twice : (x y z : ℕ) → word_difference (word_difference x y) z ≡ word_difference x (word_sum y z)
+subtracted_twice x y z = omega arith
+
 pub row_ring : RowRingLaws
 row_ring = record {
   zip_are_words = λ f xs ys each. zip_words-all IsWord f xs ys each;
@@ -140,6 +150,8 @@ row_ring = record {
   difference_is = λ xs ys. zip_words-map word_difference word_sum word_negation xs ys ring.difference_is;
   difference_same = difference_same;
   sum_difference = sum_difference;
+  difference_zero = difference_zero;
+  difference_difference = λ xs ys zs. zip_words-regroup word_difference word_difference word_difference word_sum xs ys zs subtracted_twice;
   sums_of_sums = λ ws xs ys zs. zip_words-crossed word_sum word_sum word_sum word_sum ws xs ys zs crossed;
   difference_of_sums = λ ws xs ys zs. zip_words-crossed word_difference word_sum word_sum word_difference ws xs ys zs crossed_difference;
   with_scaled_is = λ xs factor ys. zip_words-map (λ x y. word_sum x (factor * y)) word_sum (word_product factor) xs ys (with_scaled factor);

@@ -1,9 +1,9 @@
 -- The sizes of the words of rows, and sums of many rows.
-use Rattle.std.proofs.Common.{◌≡◌, ℕ, zero, suc, ◌+◌, ◌*◌, ◌%◌, ◌^◌, ◌<◌, ◌≤◌, List, [], ◌∷◌, ◌++◌, length, get_or, map, replicate, arith, ap, sym, subst, ◌∙◌, refl}
+use Rattle.std.proofs.Common.{◌≡◌, ℕ, zero, suc, ◌+◌, ◌*◌, ◌%◌, ◌^◌, ◌<◌, ◌≤◌, List, [], ◌∷◌, ◌++◌, length, get_or, take, map, replicate, arith, ap, sym, subst, ◌∙◌, refl}
 use Rattle.std.proofs.Math.Nat.{add-mul, mul-le-mul_left}
 use Rattle.std.specs.List.{All, zip, sum_by, enumerate_from}
 use Rattle.std.proofs.lemmas.Nat.{mul-le}
-use Rattle.std.proofs.lemmas.List.{length-map, length-replicate, get_or-replicate, same_lists}
+use Rattle.std.proofs.lemmas.List.{length-map, map-append, take_more, length-take-le, length-replicate, get_or-replicate, same_lists}
 use Rattle.std.proofs.lemmas.List.Elements.{All-nil, All-cons, All-head, All-tail, All-replicate, All-map, All-weaker}
 use Rattle.std.proofs.lemmas.List.Sums.{sum_by-cons, sum_by-le, sum_by-append}
 use Rattle.word_ring.specs.Words.{IsWord, word_sum, word_difference, word_product, size}
@@ -151,6 +151,36 @@ scaled_lengths len (w ∷ weights) (row ∷ rows) long =
     (length-map row (word_product w) ∙ All-head (λ r. length r ≡ len) row rows long)
     (scaled_lengths len weights rows (All-tail (λ r. length r ≡ len) row rows long))
 
+-- two lists of pairs end to end
+zip_append : {X Y : Type 0} → (xs us : List X) (ys vs : List Y) → length xs ≡ length ys → zip (xs ++ us) (ys ++ vs) ≡ zip xs ys ++ zip us vs
+zip_append [] us [] vs long = refl
+zip_append [] us (y ∷ ys) vs long = absurd (omega arith)
+zip_append (x ∷ xs) us [] vs long = absurd (omega arith)
+zip_append (x ∷ xs) us (y ∷ ys) vs long = ap (λ ps. (x, y) ∷ ps) (zip_append xs us ys vs (omega arith))
+
+total_scaled_append :
+    (len : ℕ) (weights others : List ℕ) (rows further : List (List ℕ)) → length weights ≡ length rows → AllOfLength len further
+    → sum_of_rows len (scaled_rows (weights ++ others) (rows ++ further))
+    ≡ row_sum (sum_of_rows len (scaled_rows weights rows)) (sum_of_rows len (scaled_rows others further))
+total_scaled_append len weights others rows further long each =
+    let parts : scaled_rows (weights ++ others) (rows ++ further) ≡ scaled_rows weights rows ++ scaled_rows others further =
+    ap (map (λ p. scaled_row p.0 p.1)) (zip_append weights others rows further long) ∙ map-append (λ (p : ℕ × List ℕ). scaled_row p.0 p.1) (zip weights rows) (zip others further) in
+    ap (sum_of_rows len) parts ∙ total_append len (scaled_rows weights rows) (scaled_rows others further) (scaled_lengths len others further each)
+
+total_scaled_more :
+    (len : ℕ) (weights : List ℕ) (rows : List (List ℕ)) (k : ℕ) → k < length weights → k < length rows → AllOfLength len rows
+    → sum_of_rows len (scaled_rows (take (k + 1) weights) (take (k + 1) rows))
+    ≡ row_sum (sum_of_rows len (scaled_rows (take k weights) (take k rows))) (scaled_row (get_or weights k 0) (get_or rows k []))
+total_scaled_more len weights rows k p q each =
+    let w : ℕ = get_or weights k 0 in
+    let row : List ℕ = get_or rows k [] in
+    let here : length row ≡ len = each k [] q in
+    let scaled_long : length (scaled_row w row) ≡ len = length-map row (word_product w) ∙ here in
+    let as_long : length (take k weights) ≡ length (take k rows) = omega (arith, length-take-le k weights, length-take-le k rows) in
+    rw (take_more weights k 0 p, take_more rows k [] q)
+    (total_scaled_append len (take k weights) (w ∷ []) (take k rows) (row ∷ []) as_long (All-cons (λ r. length r ≡ len) row [] here (All-nil (λ r. length r ≡ len)))
+    ∙ ap (row_sum (sum_of_rows len (scaled_rows (take k weights) (take k rows)))) (total_one len (scaled_row w row) scaled_long (row_ring.scaled_are_words w row)))
+
 pub row_totals : RowTotalLaws
 row_totals = record {
   scaled_lengths = scaled_lengths;
@@ -159,6 +189,8 @@ row_totals = record {
   total_word = total_word;
   total_one = total_one;
   total_append = total_append;
+  total_scaled_append = total_scaled_append;
+  total_scaled_more = total_scaled_more;
   total_sums = total_zip word_sum refl (λ ws xs ys zs. sym (row_ring.sums_of_sums ws xs ys zs));
   total_differences = total_zip word_difference refl (λ ws xs ys zs. sym (row_ring.difference_of_sums ws xs ys zs));
   total_scaled = total_scaled;
@@ -167,12 +199,6 @@ row_totals = record {
 }
 
 -- ---- weighted sums
-
-zip_append : {X Y : Type 0} → (xs us : List X) (ys vs : List Y) → length xs ≡ length ys → zip (xs ++ us) (ys ++ vs) ≡ zip xs ys ++ zip us vs
-zip_append [] us [] vs long = refl
-zip_append [] us (y ∷ ys) vs long = absurd (omega arith)
-zip_append (x ∷ xs) us [] vs long = absurd (omega arith)
-zip_append (x ∷ xs) us (y ∷ ys) vs long = ap (λ ps. (x, y) ∷ ps) (zip_append xs us ys vs (omega arith))
 
 combined_append :
     (into weights others : List ℕ) (rows further : List (List ℕ)) → length weights ≡ length rows

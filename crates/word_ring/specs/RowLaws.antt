@@ -1,6 +1,6 @@
 -- What holds of rows: a module over the words, the sums of many rows, and the sizes of their words.
-use Rattle.std.specs.Prelude.{◌≡◌, ℕ, ◌+◌, ◌*◌, ◌%◌, ◌^◌, ◌<◌, ◌≤◌, List, [], ◌∷◌, ◌++◌, All, length, map, replicate, slice_index}
-use Rattle.std.specs.List.{zip, sum_by}
+use Rattle.std.specs.Prelude.{◌≡◌, ℕ, ◌+◌, ◌*◌, ◌%◌, ◌^◌, ◌<◌, ◌≤◌, List, [], ◌∷◌, ◌++◌, All, length, map, replicate, take, slice_index}
+use Rattle.std.specs.List.{zip, sum_by, slice_index_or}
 use Rattle.word_ring.specs.Words.{IsWord, word_sum, word_product, word_negation, size}
 use Rattle.word_ring.specs.Rows.{zip_words, row_sum, row_difference, scaled_row, scaled_rows, sum_with_scaled, weighted_sum, combined, sum_of_rows, zip_rows, IsAdditive, AllOfLength, RowWithin}
 
@@ -26,6 +26,12 @@ pub record RowRingLaws : Type 0 where
   pub sum_difference :
       (xs ys : List ℕ) → length xs ≡ length ys → All IsWord ys
       → row_sum xs (row_difference ys xs) ≡ ys
+  -- minus 0 it is itself
+  pub difference_zero : (xs : List ℕ) → All IsWord xs → row_difference xs (replicate (length xs) 0) ≡ xs
+  -- two rows subtracted in turn are their sum subtracted
+  pub difference_difference :
+      (xs ys zs : List ℕ)
+      → row_difference (row_difference xs ys) zs ≡ row_difference xs (row_sum ys zs)
   -- the sum of two sums goes pair by pair
   pub sums_of_sums :
       (ws xs ys zs : List ℕ)
@@ -102,6 +108,19 @@ pub record RowTotalLaws : Type 0 where
   pub total_append :
       (len : ℕ) (rows others : List (List ℕ)) → AllOfLength len others
       → sum_of_rows len (rows ++ others) ≡ row_sum (sum_of_rows len rows) (sum_of_rows len others)
+  -- so more weighted rows are added to the sum of the first ones
+  pub total_scaled_append :
+      (len : ℕ) (weights others : List ℕ) (rows further : List (List ℕ))
+      → length weights ≡ length rows → AllOfLength len further
+      → sum_of_rows len (scaled_rows (weights ++ others) (rows ++ further))
+      ≡ row_sum (sum_of_rows len (scaled_rows weights rows)) (sum_of_rows len (scaled_rows others further))
+  -- one more than the first k is added to their sum
+  pub total_scaled_more :
+      (len : ℕ) (weights : List ℕ) (rows : List (List ℕ)) (k : ℕ)
+      → k < length weights → k < length rows → AllOfLength len rows
+      → sum_of_rows len (scaled_rows (take (k + 1) weights) (take (k + 1) rows))
+      ≡ row_sum (sum_of_rows len (scaled_rows (take k weights) (take k rows)))
+      (scaled_row (slice_index weights k) (slice_index_or rows k []))
   -- the sum of sums, pair by pair, is the sum of both sums
   pub total_sums :
       (len : ℕ) (rows others : List (List ℕ)) → length rows ≡ length others
