@@ -2,5 +2,6 @@ pub mod PartLoops
 pub mod GlwePhases
 pub mod GlweShapes
 pub mod GlweSizes
-pub mod Extraction
+pub mod ExtractionLoops
+pub mod ExtractedPhase
 pub mod Examples

@@ -1,7 +1,8 @@
 -- What a loop over parts has written, as one list of parts.
-use Rattle.std.proofs.Common.{◌≡◌, ℕ, ◌+◌, ◌<◌, ◌≤◌, min, List, [], ◌∷◌, ◌++◌, length, get_or, map, replicate, take, drop, All, subst, arith, ap, sym, ◌∙◌, refl}
+use Rattle.std.proofs.Common.{◌≡◌, ℕ, ◌+◌, ◌^◌, ◌<◌, ◌≤◌, min, List, [], ◌∷◌, ◌++◌, length, get_or, map, replicate, take, drop, All, subst, arith, ap, sym, ◌∙◌, refl}
 use Prim.Native.Nat.{zero, suc}
 use Rattle.std.specs.List.{zip, concat}
+use Rattle.std.proofs.Math.Nat.{pow-le-pow_right}
 use Rattle.std.proofs.lemmas.List.{ext_get_or, get_or_default, get_or-map, length-map, get_or-replicate, length-replicate, length-append, replicate-append-replicate, take-append-le, take_all}
 use Rattle.std.proofs.lemmas.Slice.Zip.{length-zip, get_or-zip}
 use Rattle.std.proofs.lemmas.List.Elements.{All-from_get_or}
@@ -40,17 +41,25 @@ keeps_shape xs ys shape e =
     record {
       some = omega (arith, number, shape.some);
       few = omega (arith, number, shape.few);
+      least = omega (arith, same_length_at ys xs 0 e, shape.least);
+      most = omega (arith, same_length_at ys xs 0 e, shape.most);
       lengths = All-from_get_or (λ part. length part ≡ degree_of ys) ys []
           (λ k inside. same_length_at ys xs k e ∙ shape.lengths k [] (omega (arith, number, inside)) ∙ sym (same_length_at ys xs 0 e));
     }
 
 -- zeros have a shape
-pub zeros_shape : (m n : ℕ) → 2 ≤ m → m ≤ 4 → HasShape (replicate m (replicate n 0))
-zeros_shape m n some few =
+pub zeros_shape : (m log_n : ℕ) → 2 ≤ m → m ≤ 4 → 1 ≤ log_n → log_n ≤ 13 → HasShape (replicate m (replicate (2 ^ log_n) 0))
+zeros_shape m log_n some few low high =
+    let n : ℕ = 2 ^ log_n in
     let number : length (replicate m (replicate n 0)) ≡ m = length-replicate {A = List ℕ} m (replicate n 0) in
+    let degree : degree_of (replicate m (replicate n 0)) ≡ n = ap length (get_or-replicate m 0 (replicate n 0) [] (omega (arith, some))) ∙ length-replicate {A = ℕ} n 0 in
+    let least : 2 ^ 1 ≤ n = pow-le-pow_right {n = 2} (omega arith) {i = 1} {j = log_n} low in
+    let most : n ≤ 2 ^ 13 = pow-le-pow_right {n = 2} (omega arith) {i = log_n} {j = 13} high in
     record {
       some = omega (arith, number, some);
       few = omega (arith, number, few);
+      least = omega (arith, degree, least);
+      most = omega (arith, degree, most);
       lengths = All-from_get_or (λ part. length part ≡ degree_of (replicate m (replicate n 0))) (replicate m (replicate n 0)) []
           (λ k inside. ap length (get_or-replicate m k (replicate n 0) [] (omega (arith, number, inside)) ∙ sym (get_or-replicate m 0 (replicate n 0) [] (omega (arith, some)))));
     }

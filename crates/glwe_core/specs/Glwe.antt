@@ -14,10 +14,12 @@ lengths_of parts = map length parts
 abbrev pub degree_of : List (List ℕ) → ℕ
 degree_of parts = length (slice_index_or parts 0 [])
 
--- one to three mask polynomials and a body, of as many coefficients each
+-- one to three mask polynomials and a body, of as many coefficients each, from 2 to 8192
 pub record HasShape (parts : List (List ℕ)) : Type 0 where
   pub some : 2 ≤ length parts
   pub few : length parts ≤ 4
+  pub least : 2 ≤ degree_of parts
+  pub most : degree_of parts ≤ 8192
   pub lengths : AllOfLength (degree_of parts) parts
 
 -- and all coefficients are words

@@ -15,7 +15,7 @@ use word_ring::Lin;
 /// from 1 to 13 (Chillotti et al. 2020). A clause sees it as the list of its parts, the body last.
 #[derive(Debug, Drop)]
 pub struct Glwe {
-    parts: Vec<Poly>,
+    pub(crate) parts: Vec<Poly>,
 }
 
 impl Model for Glwe {

@@ -6,7 +6,7 @@
 //! call for. Only the constructors and the flat key take memory.
 #![tactic(auto)]
 
-// mod extraction;
+mod extraction;
 mod glwe;
 // mod key;
 pub mod laws;
@@ -15,7 +15,7 @@ mod parts;
 #[cfg(test)]
 mod tests;
 
-// pub use extraction::extract_into;
+pub use extraction::extract_into;
 pub use glwe::{Glwe, add_product, rotate_glwe_into};
 // pub use key::{GlweKey, flat_key};
 // pub use phases::{phase_into, seal_glwe, trivial_into};

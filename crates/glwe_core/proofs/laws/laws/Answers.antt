@@ -1,7 +1,7 @@
 use Rattle.glwe_core.proofs.GlweShapes as shapes
 use Rattle.glwe_core.proofs.GlwePhases as phases
 use Rattle.glwe_core.proofs.GlweSizes as sizes
-use Rattle.glwe_core.proofs.Extraction as extraction
+use Rattle.glwe_core.proofs.ExtractedPhase as extraction
 use Rattle.glwe_core.proofs.laws.laws.Goals as goal
 
 pub returns-clause-shapes : goal.returns-clause-shapes

@@ -8,4 +8,4 @@ invariant_of-result c =
     let k = c.args.k in
     let made : c.loop-part.parts.items ≡ replicate (k + 1) (replicate (2 ^ c.args.log_n) 0) =
     c.loop-part.invariant ∙ ap (λ n. replicate n (replicate (2 ^ c.args.log_n) 0)) (omega arith) in
-    subst HasShape (sym made) (zeros_shape (k + 1) (2 ^ c.args.log_n) (omega arith) (omega arith))
+    subst HasShape (sym made) (zeros_shape (k + 1) c.args.log_n (omega arith) (omega arith) c.requires.one_or_more c.requires.thirteen_or_less)

@@ -4,7 +4,6 @@ use Prim.Native.Nat.{zero, suc}
 use Rattle.std.specs.List.{zip, concat, range_with_len}
 use Rattle.std.proofs.Math.Nat.{mod_self, mod-eq_of_lt}
 use Rattle.std.proofs.lemmas.Nat.{mul-mod}
-use Rattle.std.proofs.lemmas.List.FromFn.{length-range_with_len}
 use Rattle.std.proofs.lemmas.Bool.{lt-ltb, le-ltb, ne_eqb}
 use Rattle.std.proofs.lemmas.List.{length-map, length-append, get_or-append-add, get_or-replicate}
 use Rattle.std.proofs.lemmas.List.Sums.{sum_by-cons}
@@ -16,6 +15,7 @@ use Rattle.negacyclic.specs.Product.{sum_below, negacyclic_product, coefficient}
 use Rattle.negacyclic.specs.Laws.{ProductLaws}
 use Rattle.glwe_core.specs.Glwe.{FitsGlweKey, flat_key_of, body_of, glwe_phase, extracted_mask, extracted}
 use Rattle.glwe_core.specs.Laws.{ExtractionLaws}
+use Rattle.glwe_core.proofs.ExtractionLoops.{mask_word, length-extracted_mask}
 use Rattle.glwe_core.proofs.GlwePhases.{Fits, fits, length-bits, sum_at, phase_is, length-body, length-sum_at}
 
 -- ---- finite sums
@@ -71,13 +71,6 @@ masked-range (b ∷ bits) f a =
 
 -- ---- one part
 
--- a word of an extracted mask polynomial
-abbrev extracted_word : List ℕ → ℕ → ℕ
-extracted_word a i = cond (eqb i 0) (get_or a 0 0) (word_negation (get_or a (length a - i) 0))
-
-same_word : (a b : ℕ) → a ≡ b → a % 2 ^ 64 ≡ b % 2 ^ 64
-same_word a b e = ap (λ n. n % 2 ^ 64) e
-
 twice : (w : ℕ) → w % 2 ^ 64 % 2 ^ 64 ≡ w % 2 ^ 64
 twice w = omega arith
 
@@ -89,7 +82,7 @@ other_place n i lt =
     let below : 2 * n - suc i < 2 * n = omega arith in
     ap (λ m. m % (2 * n)) (omega arith) ∙ mod-eq_of_lt below
 
-coefficient_word : (a : List ℕ) (i : ℕ) → i < length a → coefficient a (0 + (2 * length a - i)) % 2 ^ 64 ≡ extracted_word a i % 2 ^ 64
+coefficient_word : (a : List ℕ) (i : ℕ) → i < length a → coefficient a (0 + (2 * length a - i)) % 2 ^ 64 ≡ mask_word a i % 2 ^ 64
 coefficient_word a zero lt =
     let place = first_place (length a) lt in
     let inside = lt-ltb 0 (length a) lt in
@@ -111,15 +104,11 @@ product-extracted laws n bits a p q some =
     let f : ℕ → ℕ = λ j. coefficient a (0 + (2 * length a - j)) in
     let h : ℕ → ℕ = λ j. get_or s j 0 in
     laws.product_coefficient a s 0 (p ∙ sym long) (omega (arith, p, some))
-    ∙ sum_below-residues (length s) f (extracted_word a) h (λ j lt. coefficient_word a j (omega (arith, p, long, lt)))
-    ∙ ap (λ m. sum_below m (λ j. extracted_word a j * h j) % 2 ^ 64) (long ∙ sym q)
-    ∙ ap (λ m. m % 2 ^ 64) (sum_below-same (length bits) (λ j. extracted_word a j * h j) (λ j. extracted_word a (0 + j) * h j) (λ j lt. ap (λ k. extracted_word a k * h j) (omega arith))
-    ∙ sym (masked-range bits (extracted_word a) 0)
-    ∙ ap (λ m. masked_sum bits (map (extracted_word a) (range_with_len 0 m))) (q ∙ sym p))
-
-length-extracted_mask : (a : List ℕ) → length (extracted_mask a) ≡ length a
-unfolding extracted_mask
-length-extracted_mask a = length-map (range_with_len 0 (length a)) _ ∙ length-range_with_len 0 (length a)
+    ∙ sum_below-residues (length s) f (mask_word a) h (λ j lt. coefficient_word a j (omega (arith, p, long, lt)))
+    ∙ ap (λ m. sum_below m (λ j. mask_word a j * h j) % 2 ^ 64) (long ∙ sym q)
+    ∙ ap (λ m. m % 2 ^ 64) (sum_below-same (length bits) (λ j. mask_word a j * h j) (λ j. mask_word a (0 + j) * h j) (λ j lt. ap (λ k. mask_word a k * h j) (omega arith))
+    ∙ sym (masked-range bits (mask_word a) 0)
+    ∙ ap (λ m. masked_sum bits (map (mask_word a) (range_with_len 0 m))) (q ∙ sym p))
 
 -- ---- part by part
 
