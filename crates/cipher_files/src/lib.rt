@@ -22,7 +22,6 @@ mod reading;
 pub use digest::params_digest;
 pub use fault::FileFault;
 pub use head::CipherHead;
-pub use laws::ciphertext_file_laws;
 pub use limits::FILE_LIMIT;
 pub use printing::print_cipher;
 pub use reading::read_cipher;

@@ -4,5 +4,4 @@ pub mod Reading
 pub mod Numbers
 pub mod Circuit
 pub mod CircuitReading
-pub mod CircuitLaws
 pub mod Laws

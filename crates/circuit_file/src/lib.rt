@@ -17,7 +17,6 @@ pub use circuit::{
     Circuit, Gadget, GlweChoice, LweChoice, Out, Params, Range, Term, WeightedSum, dimension,
 };
 pub use fault::{CircuitFault, CircuitKind};
-pub use laws::circuit_text_laws;
 pub use limits::{CIRCUIT_LIMIT, MOST_DIMENSION, MOST_WIDTH};
 pub use printing::{print_circuit, print_params};
 pub use ranges::is_input_range;

@@ -22,7 +22,7 @@ use crate::status::Status;
 use crate::words::{RunNames, is_no_eval};
 use cipher_files::{CipherHead, FILE_LIMIT, FileFault, params_digest, print_cipher, read_cipher};
 use circuit_file::{CIRCUIT_LIMIT, Circuit, Out, Range, dimension, read_circuit};
-use circuit_run::{evaluation_laws, outputs_of};
+use circuit_run::outputs_of;
 use lists::List;
 use lwe_core::{Big, Lwe};
 use port_store::{Sink, Store};
@@ -217,7 +217,7 @@ pub fn run<S: Store, O: Sink>(
     port_store::laws::laws();
     circuit_file::laws::laws();
     cipher_files::laws::laws();
-    evaluation_laws();
+    circuit_run::laws::laws();
     match output_from(alloc, store, names) {
         Ok(output) => write_file(store, names.output, &output),
         Err(refusal) => Status::from(refusal),
