@@ -39,9 +39,11 @@ pub record IsDecomposition (word base level : ℕ) (digits : List ℤ) : Type 0 
 abbrev pub half_weights : ℕ → ℕ → ℕ
 half_weights base level = sum (map (λ t. 2 ^ (63 - base * t)) (range_with_len 0 (level + 1)))
 
--- digit t by itself: with the half weights added, the digits are those of plain positional notation, each 2^(base-1) more
+-- digit t by itself: with the half weights added, the digits are those of plain positional notation, each 2^(base-1)
+-- more
 abbrev pub digit_of : ℕ → ℕ → ℕ → ℕ → ℤ
-digit_of word base level t = pos (word_sum word (half_weights base level) / place_weight base t % 2 ^ base) -ℤ pos (2 ^ (base - 1))
+digit_of word base level t =
+    pos (word_sum word (half_weights base level) / place_weight base t % 2 ^ base) -ℤ pos (2 ^ (base - 1))
 
 -- the digits from place 1 to the last
 abbrev pub digits_of : ℕ → ℕ → ℕ → List ℤ

@@ -60,7 +60,9 @@ pub fn poly_digit_into(out: &mut Poly, source: &Poly, base: u32, level: u32, t: 
     requires first { 1 ≤ t }
     requires last { t ≤ level }
     requires one_length { length out.old ≡ length source.now }
-    ensures digits { EachIndex out.new (λ k. (digits : List ℤ) × IsDecomposition (slice_index source.now k) base level digits × (slice_index out.new k ≡ word_of (slice_index_or digits (t - 1) (pos 0)))) }
+    ensures digits { EachIndex out.new (λ k. (digits : List ℤ)
+        × IsDecomposition (slice_index source.now k) base level digits
+        × (slice_index out.new k ≡ word_of (slice_index_or digits (t - 1) (pos 0)))) }
     ensures words { out.new ≡ digit_polynomial base level t source.now }
 {
     let halves = half_weights(base, level);

@@ -15,6 +15,16 @@ pub record SwitchRows : Type 0 where
   pub level : ℕ
   pub rows : List (List ℕ)
 
+-- the key of these dimensions, base, level and rows
+abbrev pub switch_rows : ℕ → ℕ → ℕ → ℕ → List (List ℕ) → SwitchRows
+switch_rows big_dim small_dim base level rows = record {
+  big_dim = big_dim;
+  small_dim = small_dim;
+  base = base;
+  level = level;
+  rows = rows;
+}
+
 -- where row (i, t) stands: the rows of bit 0 of the big key, t from 1 to the level, then those of bit 1, and so on
 abbrev pub place_of : ℕ → ℕ → ℕ → ℕ
 place_of level i t = i * level + (t - 1)
@@ -37,13 +47,8 @@ pub record HasRow (key : SwitchRows) (i t : ℕ) : Type 0 where
 
 -- the key whose rows are 0
 abbrev pub zero_key : ℕ → ℕ → ℕ → ℕ → SwitchRows
-zero_key big_dim small_dim base level = record {
-  big_dim = big_dim;
-  small_dim = small_dim;
-  base = base;
-  level = level;
-  rows = replicate (big_dim * level) (replicate (small_dim + 1) 0);
-}
+zero_key big_dim small_dim base level =
+    switch_rows big_dim small_dim base level (replicate (big_dim * level) (replicate (small_dim + 1) 0))
 
 -- the key with another row (i, t)
 abbrev pub with_row : SwitchRows → ℕ → ℕ → List ℕ → SwitchRows

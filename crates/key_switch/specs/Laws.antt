@@ -24,9 +24,13 @@ KeepsPhase key before after =
 -- what switching gives
 pub record SwitchLaws : Type 0 where
   -- as many words as the small key's ciphertexts have
-  pub switched_length : (key : SwitchRows) (words : List ℕ) → IsSwitchKey key → length (switched key words) ≡ key.small_dim + 1
+  pub switched_length :
+      (key : SwitchRows) (words : List ℕ) → IsSwitchKey key
+      → length (switched key words) ≡ key.small_dim + 1
   -- whose phase is near the old one, for every key
-  pub switched_near : (key : SwitchRows) (words : List ℕ) → length words ≡ key.big_dim + 1 → KeepsPhase key words (switched key words)
+  pub switched_near :
+      (key : SwitchRows) (words : List ℕ) → length words ≡ key.big_dim + 1
+      → KeepsPhase key words (switched key words)
 
 -- what an exchanged row leaves
 pub record ExchangeLaws : Type 0 where

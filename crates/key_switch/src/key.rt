@@ -22,13 +22,13 @@ pub struct SwitchKey {
 }
 
 impl Model for SwitchKey {
-    ghost use Rattle.key_switch.specs.Key.{SwitchRows, IsSwitchKey};
+    ghost use Rattle.key_switch.specs.Key.{SwitchRows, IsSwitchKey, switch_rows};
 
     ghost Value = { SwitchRows };
 
-    ghost view = { λ k. record { big_dim = k.big_dim; small_dim = k.small_dim; base = k.base; level = k.level; rows = k.rows.items } };
+    ghost view = { λ k. switch_rows k.big_dim k.small_dim k.base k.level k.rows.items };
 
-    ghost invariant = { λ k. IsSwitchKey (record { big_dim = k.big_dim; small_dim = k.small_dim; base = k.base; level = k.level; rows = k.rows.items }) };
+    ghost invariant = { λ k. IsSwitchKey (switch_rows k.big_dim k.small_dim k.base k.level k.rows.items) };
 }
 
 impl SwitchKey {

@@ -21,7 +21,8 @@ fn subtract_rows(out: &mut Lwe<Small>, digits: &[i64], rows: &[Lwe<Small>])
     requires one_each { length digits.now ≡ length rows.now }
     requires fitting { AllOfLength (length out.old) rows.now }
     ensures length { length out.new ≡ length out.old }
-    ensures words { out.new ≡ row_difference out.old (sum_of_rows (length out.old) (scaled_rows (map word_of digits.now) rows.now)) }
+    ensures words { out.new ≡ row_difference out.old
+        (sum_of_rows (length out.old) (scaled_rows (map word_of digits.now) rows.now)) }
 {
     out.known();
     word_ring::laws::laws();

@@ -64,12 +64,20 @@ rows_at words values places = map (λ place. slice_index_or (map words values) p
 -- rows word by word, and weighted sums term by term
 pub record RowLaws : Type 0 where
   -- an operation on two rows has as many words as the shorter
-  pub zip_length : (operation : ℕ → ℕ → ℕ) (xs ys : List ℕ) → length (zip_words operation xs ys) ≡ min (length xs) (length ys)
+  pub zip_length :
+      (operation : ℕ → ℕ → ℕ) (xs ys : List ℕ)
+      → length (zip_words operation xs ys) ≡ min (length xs) (length ys)
   -- and goes place by place
-  pub zip_word : (operation : ℕ → ℕ → ℕ) (xs ys : List ℕ) (i : ℕ) → i < length xs → i < length ys → slice_index (zip_words operation xs ys) i ≡ operation (slice_index xs i) (slice_index ys i)
+  pub zip_word :
+      (operation : ℕ → ℕ → ℕ) (xs ys : List ℕ) (i : ℕ) → i < length xs → i < length ys
+      → slice_index (zip_words operation xs ys) i ≡ operation (slice_index xs i) (slice_index ys i)
   -- a weighted sum keeps the number of words
-  pub combined_length : (into weights : List ℕ) (rows : List (List ℕ)) → length (combined into weights rows) ≡ length into
+  pub combined_length :
+      (into weights : List ℕ) (rows : List (List ℕ))
+      → length (combined into weights rows) ≡ length into
   -- without a term it leaves a row of words as it is
   pub combined_none : (into : List ℕ) → All IsWord into → combined into [] [] ≡ into
   -- and a first term is the sum of the others with its multiple
-  pub combined_first : (into weights : List ℕ) (rows : List (List ℕ)) (weight : ℕ) (row : List ℕ) → length row ≡ length into → combined into (weight ∷ weights) (row ∷ rows) ≡ sum_with_scaled (combined into weights rows) weight row
+  pub combined_first :
+      (into weights : List ℕ) (rows : List (List ℕ)) (weight : ℕ) (row : List ℕ) → length row ≡ length into
+      → combined into (weight ∷ weights) (row ∷ rows) ≡ sum_with_scaled (combined into weights rows) weight row

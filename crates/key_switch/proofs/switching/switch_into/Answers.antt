@@ -16,12 +16,8 @@ loop-i-init c =
     let body : ℕ = get_or c.args.c.now key.big_dim 0 in
     let zeros : c.zero_assign.new.self ≡ replicate (key.small_dim + 1) 0 = c.zero_assign.ensures.words ∙ ap (λ n. replicate n 0) c.requires.small in
     let body_is : c.word.result ≡ body = cc in
-    let start : c.set.new.self ≡ trivial key.small_dim body =
-    c.set.ensures
-    ∙ ap (λ row. slice_set row c.small_dim.result c.word.result) zeros
-    ∙ ap (λ n. slice_set (replicate (key.small_dim + 1) 0) n c.word.result) c.small_dim.ensures
-    ∙ ap (λ w. slice_set (replicate (key.small_dim + 1) 0) key.small_dim w) body_is
-    ∙ set_body key.small_dim body in
+    let set : c.set.new.self ≡ slice_set (replicate (key.small_dim + 1) 0) key.small_dim body = cc in
+    let start : c.set.new.self ≡ trivial key.small_dim body = set ∙ set_body key.small_dim body in
     let long : length c.set.new.self ≡ key.small_dim + 1 = ap length start ∙ length_push (replicate key.small_dim 0) body ∙ ap (λ n. n + 1) (length-replicate {A = ℕ} key.small_dim 0) in
     record {
       places = length-take-le c.level.result _ (omega (arith, few_digits key.base key.level c.known.ensures.gadget, c.level.ensures)) ∙ c.level.ensures;
