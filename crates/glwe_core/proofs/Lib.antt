@@ -4,4 +4,6 @@ pub mod GlweShapes
 pub mod GlweSizes
 pub mod ExtractionLoops
 pub mod ExtractedPhase
+pub mod KeyLoops
+pub mod PhaseLoops
 pub mod Examples

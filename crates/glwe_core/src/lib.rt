@@ -8,15 +8,15 @@
 
 mod extraction;
 mod glwe;
-// mod key;
+mod key;
 pub mod laws;
 mod parts;
-// mod phases;
+mod phases;
 #[cfg(test)]
 mod tests;
 
 pub use extraction::extract_into;
 pub use glwe::{Glwe, add_product, rotate_glwe_into};
-// pub use key::{GlweKey, flat_key};
-// pub use phases::{phase_into, seal_glwe, trivial_into};
+pub use key::{GlweKey, flat_key};
+pub use phases::{phase_into, seal_glwe, trivial_into};
 pub use word_ring::Lin;

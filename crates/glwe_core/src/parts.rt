@@ -1,10 +1,10 @@
 //! What goes part by part, in place.
 
-ghost use Rattle.std.specs.Prelude.{◌≡◌, ◌<◌, ◌*◌, ◌^◌, All, length, map, replicate};
+ghost use Rattle.std.specs.Prelude.{◌≡◌, ◌<◌, ◌-◌, ◌*◌, ◌^◌, All, length, map, replicate};
 ghost use Rattle.std.specs.List.{concat};
 ghost use Rattle.word_ring.specs.Words.{IsWord};
 ghost use Rattle.word_ring.specs.Rows.{row_sum, row_difference, scaled_row, sum_with_scaled, zip_rows, AllOfLength};
-ghost use Rattle.glwe_core.specs.Glwe.{lengths_of, plus_product, rotated};
+ghost use Rattle.glwe_core.specs.Glwe.{lengths_of, plus_product, rotated, trivial_glwe};
 
 use negacyclic::{Poly, Scratch, mul_add, rotate_into};
 use word_ring::{Lin, rows};
@@ -103,4 +103,17 @@ pub fn rotate(parts: &mut [Poly], others: &[Poly], by: u32)
         rotate_into(&mut parts[i], &others[i], by);
     }
     negacyclic::laws::laws();
+}
+
+/// Sets the last part to a polynomial, and every word of the others to 0.
+pub fn make_trivial(parts: &mut [Poly], body: &Poly)
+    requires some { 0 < length parts.old }
+    requires degree { AllOfLength (length body.now) parts.old }
+    ensures parts { parts.new ≡ trivial_glwe (length parts.old - 1) body.now }
+    ensures shape { lengths_of parts.new ≡ lengths_of parts.old }
+{
+    rows::known(body.coeffs());
+    clear(parts);
+    let last = parts.len() - 1;
+    parts[last].add_assign(body);
 }
