@@ -71,13 +71,12 @@ pub struct Returned<T> {
     pub op: T,
 }
 
-impl<T> From<AllocFailed<(u32, T)>> for Returned<T> {
-    ghost from_gives = { λ failed returned. returned.op ≡ failed.value.1 };
-
-    fn from(failed: AllocFailed<(u32, T)>) -> Returned<T> {
-        let AllocFailed { value: (_, op) } = failed;
-        Returned { op }
-    }
+/// The operation of an entry for which there was no memory.
+fn handed_back<T>(failed: AllocFailed<(u32, T)>) -> Returned<T>
+    ensures { result.op ≡ failed.value.1 }
+{
+    let AllocFailed { value: (_, op) } = failed;
+    Returned { op }
 }
 
 /// Operations of a level in their order, each with its number.
@@ -134,9 +133,13 @@ impl<L: Level> Graph<L> {
         ensures err { OnErr result (self.new ≡ self.old) }
     {
         let number = self.made;
-        self.entries.push((number, op))?;
-        self.made = number + 1;
-        Ok(number)
+        match self.entries.push((number, op)) {
+            Ok(()) => {
+                self.made = number + 1;
+                Ok(number)
+            }
+            Err(failed) => Err(handed_back(failed)),
+        }
     }
 
     /// Adds an operation just before the one with the number `place`, and answers its number. For
@@ -153,9 +156,13 @@ impl<L: Level> Graph<L> {
     {
         let number = self.made;
         let at = walks::find_place(self.entries.as_slice(), place);
-        self.entries.insert(at, (number, op))?;
-        self.made = number + 1;
-        Ok(number)
+        match self.entries.insert(at, (number, op)) {
+            Ok(()) => {
+                self.made = number + 1;
+                Ok(number)
+            }
+            Err(failed) => Err(handed_back(failed)),
+        }
     }
 
     /// Takes away an operation that has no use, and gives it. Its number is not used again.
