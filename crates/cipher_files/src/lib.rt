@@ -20,7 +20,7 @@ mod printing;
 mod reading;
 
 pub use digest::params_digest;
-pub use fault::FileFault;
+pub use fault::{FileFault, FileRefusal};
 pub use head::CipherHead;
 pub use limits::FILE_LIMIT;
 pub use printing::print_cipher;

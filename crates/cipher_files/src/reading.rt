@@ -9,7 +9,7 @@ ghost use Rattle.refusals.specs.Reading.{Gives};
 ghost use Rattle.cipher_files.specs.CiphertextReading.{check, word_in, number_within, counts_of, is_sealed, range_of, ranges_of, words_of, ciphertexts_of, ciphertext_file_of};
 
 use crate::MAGIC;
-use crate::fault::FileFault;
+use crate::fault::{FileFault, FileRefusal};
 use crate::head::CipherHead;
 use crate::laws::laws;
 use crate::limits::{
@@ -18,7 +18,7 @@ use crate::limits::{
 use circuit_file::{MOST_DIMENSION, MOST_WIDTH, is_input_range};
 use lists::List;
 use lwe_core::{Big, Lwe};
-use refusals::{Refusal, unless};
+use refusals::unless;
 use sha2::{Digest, Sha256};
 use std::alloc::{AllocError, Global};
 use word_ring::centred;
@@ -32,7 +32,7 @@ struct Counts {
 }
 
 /// Goes on only where the test holds.
-fn check(test: bool) -> Result<(), Refusal<FileFault>>
+fn check(test: bool) -> Result<(), FileRefusal>
     ensures exact { Gives (λ x. x) result (check test) }
     ensures held { OnOk result (IsTrue test) }
 {
@@ -51,7 +51,7 @@ fn word_in(bytes: &[u8], place: usize) -> u64
 }
 
 #[tactic(auto, unfolding(crate::specs::CiphertextReading::number_within))]
-fn number_within(least: u64, most: u64, number: u64) -> Result<u32, Refusal<FileFault>>
+fn number_within(least: u64, most: u64, number: u64) -> Result<u32, FileRefusal>
     requires { most < 2 ^ 32 }
     ensures read { Gives (λ number. number) result (number_within least most number) }
     ensures limit { IfOk result (λ number. number ≤ most) }
@@ -61,7 +61,7 @@ fn number_within(least: u64, most: u64, number: u64) -> Result<u32, Refusal<File
 }
 
 #[tactic(auto, unfolding(crate::specs::CiphertextReading::counts_of))]
-fn counts_of(bytes: &[u8]) -> Result<Counts, Refusal<FileFault>>
+fn counts_of(bytes: &[u8]) -> Result<Counts, FileRefusal>
     ensures read { Gives (λ counts. (counts.dim, counts.width, counts.number)) result (counts_of bytes.now) }
     ensures dim { IfOk result (λ counts. counts.dim ≤ most_dimension) }
     ensures number { IfOk result (λ counts. counts.number ≤ most_ciphertexts) }
@@ -86,7 +86,7 @@ fn is_sealed(bytes: &[u8]) -> bool
 }
 
 #[tactic(auto, unfolding(crate::specs::CiphertextReading::range_of))]
-fn range_of(bytes: &[u8]) -> Result<(i64, i64), Refusal<FileFault>>
+fn range_of(bytes: &[u8]) -> Result<(i64, i64), FileRefusal>
     requires { range_size ≤ length bytes.now }
     ensures { Gives (λ range. range) result (range_of bytes.now) }
 {
@@ -105,11 +105,7 @@ fn digest_of(bytes: &[u8]) -> [u8; 32]
     digest
 }
 
-fn ranges_of(
-    alloc: Global,
-    number: usize,
-    bytes: &[u8],
-) -> Result<Vec<(i64, i64)>, Refusal<FileFault>>
+fn ranges_of(alloc: Global, number: usize, bytes: &[u8]) -> Result<Vec<(i64, i64)>, FileRefusal>
     requires { range_size * number ≤ length bytes.now }
     ensures { Gives (λ ranges. ranges.items) result (ranges_of (first_chunks range_size number bytes.now)) }
 {
@@ -157,7 +153,7 @@ fn ciphertexts_of(
 }
 
 #[tactic(auto, unfolding(crate::specs::CiphertextReading::ciphertext_file_of))]
-fn file_in(alloc: Global, bytes: &[u8]) -> Result<(CipherHead, Vec<Lwe<Big>>), Refusal<FileFault>>
+fn file_in(alloc: Global, bytes: &[u8]) -> Result<(CipherHead, Vec<Lwe<Big>>), FileRefusal>
     ensures { Gives (λ read. file_of read.0 read.1.items) result (ciphertext_file_of bytes.now) }
 {
     let counts = counts_of(bytes)?;
@@ -183,10 +179,7 @@ fn file_in(alloc: Global, bytes: &[u8]) -> Result<(CipherHead, Vec<Lwe<Big>>), R
 ///
 /// A fault means that the bytes spell no file. The seal is checked before any memory is taken, and the
 /// ranges before there is any for the words.
-pub fn read_cipher(
-    alloc: Global,
-    bytes: &[u8],
-) -> Result<(CipherHead, Vec<Lwe<Big>>), Refusal<FileFault>>
+pub fn read_cipher(alloc: Global, bytes: &[u8]) -> Result<(CipherHead, Vec<Lwe<Big>>), FileRefusal>
     ensures exact { Gives (λ read. file_of read.0 read.1.items) result (ciphertext_file_of bytes.now) }
     // So it can be printed again.
     ensures valid { IfOk result (λ read. IsCiphertextFile (file_of read.0 read.1.items)) }

@@ -1,5 +1,4 @@
 use super::*;
-use refusals::Refusal;
 use sha2::{Digest, Sha256};
 use std::alloc::{AllocError, Global};
 use std::test::Fail;
@@ -183,7 +182,7 @@ fn broken_seals(rt: HostRuntime) -> Result<(), Fail> {
         assert!(rt;
             matches!(
                 read_cipher(rt.alloc(), &bytes),
-                Err(Refusal::Fault(FileFault::Later))
+                Err(FileRefusal::Fault(FileFault::Later))
             )
         );
     }

@@ -9,7 +9,7 @@ use Rattle.circuit_file.specs.declared.circuit.Gadget.{Gadget}
 use Rattle.circuit_file.specs.declared.circuit.Params.{Params}
 use Rattle.circuit_file.specs.Circuit.{line_feed, glwe_line, lwe_line, gadget_line, params_text, IsGlwe, IsLwe, IsGadget, IsParams}
 use Rattle.refusals.specs.Reading.{◌>>=◌}
-use Rattle.circuit_file.specs.Reading.{Read, text_fault, literal_at}
+use Rattle.circuit_file.specs.Reading.{Read, literal_at}
 use Rattle.circuit_file.specs.Numbers.{natural_field_at}
 use Rattle.circuit_file.specs.CircuitReading.{glwe_at, lwe_at, gadget_at, params_at, head_at}
 use Rattle.refusals.specs.Steps.{value_of_step}

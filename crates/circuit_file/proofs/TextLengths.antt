@@ -1,5 +1,5 @@
 -- How long the text of a circuit is at most.
-use Rattle.std.proofs.Common.{◌≡◌, ℕ, zero, suc, ◌+◌, ◌*◌, ◌≤◌, ◌<◌, ◌^◌, ℤ, List, [], ◌∷◌, ◌++◌, length, All, arith, refl, sym, ap, ◌∙◌, length-append}
+use Rattle.std.proofs.Common.{ℕ, ◌+◌, ◌*◌, ◌≤◌, ◌<◌, ◌^◌, ℤ, List, [], ◌∷◌, ◌++◌, length, All, arith, ap, length-append}
 use Rattle.std.specs.Prelude.{codes}
 use Rattle.std.specs.Fmt.{decimal, signed_decimal}
 use Rattle.std.specs.Int.Signed.{mag}
@@ -17,7 +17,7 @@ use Rattle.circuit_file.specs.declared.circuit.Term.{Term}
 use Rattle.circuit_file.specs.declared.circuit.WeightedSum.{WeightedSum}
 use Rattle.circuit_file.specs.declared.circuit.Out.{Out}
 use Rattle.circuit_file.specs.declared.circuit.Circuit.{Circuit}
-use Rattle.circuit_file.specs.Circuit.{node_count, line_feed, glwe_line, lwe_line, gadget_line, params_text, range_line, input_line, input_lines, term_text, sum_line, sum_lines, out_line, circuit_text, IsGlwe, IsLwe, IsGadget, IsParams, IsRange, IsTerm, IsSum, IsOut, IsCircuit}
+use Rattle.circuit_file.specs.Circuit.{line_feed, glwe_line, lwe_line, gadget_line, params_text, range_line, input_line, input_lines, term_text, sum_line, sum_lines, out_line, circuit_text, IsGlwe, IsLwe, IsGadget, IsParams, IsRange, IsTerm, IsSum, IsCircuit}
 use Rattle.circuit_file.specs.Limits.{circuit_limit}
 use Rattle.circuit_file.specs.CircuitReading.{one_more}
 use Rattle.circuit_file.proofs.Many.{spell_all, AllAlong, numbered}

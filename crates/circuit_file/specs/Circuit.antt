@@ -149,6 +149,7 @@ pub record IsGadget (g : Gadget) : Type 0 where
   pub level_low : 1 ≤ g.level
   pub bits : g.base * g.level ≤ most_digit_bits
 
+-- the four parameter lines keep their limits
 pub record IsParams (p : Params) : Type 0 where
   pub glwe : IsGlwe p.glwe
   pub lwe : IsLwe p.lwe

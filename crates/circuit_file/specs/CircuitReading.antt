@@ -20,6 +20,7 @@ use Rattle.circuit_file.specs.Circuit.{line_feed, node_count, range_of_node, bou
 
 -- ---- the parameter lines
 
+-- the parameter line of the ring
 unfoldable pub glwe_at : List ℕ → Read (GlweChoice × List ℕ)
 glwe_at bytes = do
   k ← natural_field_at (codes "glwe ") 1 most_polynomials bytes
@@ -29,6 +30,7 @@ glwe_at bytes = do
   rest ← literal_at line_feed error.1
   Ok (record { k = k.0; log_n = log_n.0; ones = ones.0; error = error.0 }, rest)
 
+-- the parameter line of small ciphertexts
 unfoldable pub lwe_at : List ℕ → Read (LweChoice × List ℕ)
 lwe_at bytes = do
   n ← natural_field_at (codes "lwe ") 1 most_small_dimension bytes
@@ -37,6 +39,7 @@ lwe_at bytes = do
   rest ← literal_at line_feed error.1
   Ok (record { n = n.0; ones = ones.0; error = error.0 }, rest)
 
+-- a parameter line of digits
 unfoldable pub gadget_at : List ℕ → List ℕ → Read (Gadget × List ℕ)
 gadget_at name bytes = do
   base ← natural_field_at name 1 most_base bytes
@@ -44,6 +47,7 @@ gadget_at name bytes = do
   rest ← literal_at line_feed level.1
   Ok (record { base = base.0; level = level.0 }, rest)
 
+-- the four parameter lines
 unfoldable pub params_at : List ℕ → Read (Params × List ℕ)
 params_at bytes = do
   glwe ← glwe_at bytes
@@ -87,9 +91,10 @@ one_more number x = number + 1
 abbrev pub is_range : Range → Bool
 is_range r = is_input_range r.lo r.hi
 
+-- the literal text, and a range up to the end of its line
 unfoldable pub range_at : List ℕ → List ℕ → Read (Range × List ℕ)
-range_at words bytes = do
-  lo ← integer_field_at words bytes
+range_at literal bytes = do
+  lo ← integer_field_at literal bytes
   hi ← integer_field_at (codes " ") lo.1
   rest ← literal_at line_feed hi.1
   let range : Range = record { lo = lo.0; hi = hi.0 } in if is_range range then Ok (range, rest) else Err text_fault
@@ -100,6 +105,7 @@ input_line_at node bytes = do
   number ← natural_field_at (codes "%") node node bytes
   range_at (codes " = input ") number.1
 
+-- the lines of the inputs, as many as stand there
 unfoldable pub inputs_at : List ℕ → Read (List Range × List ℕ)
 inputs_at bytes = Ok (many input_line_at one_more most_inputs 0 bytes)
 
@@ -118,6 +124,7 @@ term_at inputs low bytes = do
 abbrev pub after_term : ℕ → Term → ℕ
 after_term low t = t.node + 1
 
+-- the terms of a sum over so many inputs, as many as stand there
 unfoldable pub terms_at : ℕ → List ℕ → Read (List Term × List ℕ)
 terms_at inputs bytes = Ok (many (term_at inputs) after_term most_inputs 0 bytes)
 
@@ -130,6 +137,7 @@ sum_line_at inputs node bytes = do
   rest ← literal_at line_feed terms.1
   if nat_le (unsigned_abs constant.0) most_constant then Ok (record { constant = constant.0; terms = terms.0 }, rest) else Err text_fault
 
+-- the lines of the sums over so many inputs, as many as stand there
 unfoldable pub sums_at : ℕ → List ℕ → Read (List WeightedSum × List ℕ)
 sums_at inputs bytes = Ok (many (sum_line_at inputs) one_more most_sums inputs bytes)
 
@@ -140,6 +148,7 @@ out_line_at bytes = do
   range ← range_at (codes " ") node.1
   Ok (record { node = node.0; range = range.0 }, range.1)
 
+-- the lines of the outputs, as many as stand there
 unfoldable pub outs_at : List ℕ → Read (List Out × List ℕ)
 outs_at bytes = Ok (many (λ _. out_line_at) one_more most_outs 0 bytes)
 

@@ -1,5 +1,5 @@
 -- Decimal numbers at the front of a text, each in its one spelling.
-use Rattle.std.specs.Prelude.{ℕ, zero, suc, ◌^◌, ◌==◌, nat_lt, nat_le, not, ◌&&◌, ◌||◌, Bool, List, [], ◌∷◌, length, take, drop, slice_index, Ok, Err, ℤ, pos, negsuc, if◌then◌else◌}
+use Rattle.std.specs.Prelude.{ℕ, zero, suc, ◌==◌, nat_lt, nat_le, not, ◌&&◌, ◌||◌, Bool, List, [], ◌∷◌, length, take, drop, slice_index, Ok, Err, ℤ, pos, negsuc, if◌then◌else◌}
 use Rattle.std.specs.Char.{is_ascii_digit}
 use Rattle.std.specs.List.{position_or_len}
 use Rattle.std.specs.Str.Parse.{digits_value}

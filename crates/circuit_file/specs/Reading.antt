@@ -1,4 +1,5 @@
--- Reading a text from its front: a step gives a value and the bytes after it, or the fault where they spell none.
+-- Reading a text from its front: a step gives a value and the bytes after it, or the fault where they spell none. A
+-- name that ends in `_at` is such a step; one that ends in `_of` reads the whole of its bytes.
 use Rattle.std.specs.Prelude.{ℕ, List, take, drop, length, Result, Ok, Err, if◌then◌else◌}
 use Rattle.std.specs.Str.{bytes_eq}
 use Rattle.circuit_file.specs.declared.fault.CircuitFault.{CircuitFault}

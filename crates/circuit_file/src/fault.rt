@@ -1,5 +1,10 @@
 //! Why a circuit text is refused.
 
+use refusals::Refusal;
+
+/// Why no circuit was read.
+pub type CircuitRefusal = Refusal<CircuitFault>;
+
 /// Where and why a circuit text is refused.
 #[derive(Clone, Copy, Debug, PartialEq, Eq)]
 pub struct CircuitFault {

@@ -16,7 +16,7 @@ mod results;
 pub use circuit::{
     Circuit, Gadget, GlweChoice, LweChoice, Out, Params, Range, Term, WeightedSum, dimension,
 };
-pub use fault::{CircuitFault, CircuitKind};
+pub use fault::{CircuitFault, CircuitKind, CircuitRefusal};
 pub use limits::{CIRCUIT_LIMIT, MOST_DIMENSION, MOST_WIDTH};
 pub use printing::{print_circuit, print_params};
 pub use ranges::is_input_range;

@@ -4,13 +4,12 @@ ghost use Rattle.refusals.specs.Reading.{Gives};
 ghost use Rattle.circuit_file.specs.CircuitReading.{glwe_at, lwe_at, gadget_at, params_at, head_at};
 
 use crate::circuit::{Gadget, GlweChoice, LweChoice, Params};
-use crate::fault::CircuitFault;
+use crate::fault::CircuitRefusal;
 use crate::limits::{
     MOST_BASE, MOST_DIGIT_BITS, MOST_ERROR, MOST_LOG_N, MOST_POLYNOMIALS, MOST_SMALL_DIMENSION,
     MOST_WIDTH,
 };
 use crate::reading::{Read, literal_at, natural_field_at};
-use refusals::Refusal;
 
 #[tactic(auto, unfolding(crate::specs::CircuitReading::glwe_at))]
 fn glwe_at(bytes: &[u8]) -> Read<'_, GlweChoice>
@@ -79,7 +78,7 @@ fn params_at(bytes: &[u8]) -> Read<'_, Params>
 
 /// The width and the parameters.
 #[tactic(auto, unfolding(crate::specs::CircuitReading::head_at))]
-pub fn head_at(bytes: &[u8]) -> Result<(u32, Params, &[u8]), Refusal<CircuitFault>>
+pub fn head_at(bytes: &[u8]) -> Result<(u32, Params, &[u8]), CircuitRefusal>
     ensures { Gives (λ x. (x.0, x.1, x.2.now)) result (head_at bytes.now) }
 {
     let rest = literal_at(bytes, b"fhec circuit 1\n")?;

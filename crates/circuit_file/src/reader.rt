@@ -6,19 +6,18 @@ ghost use Rattle.circuit_file.specs.Circuit.{IsCircuit};
 ghost use Rattle.circuit_file.specs.CircuitReading.{circuit_of};
 
 use crate::circuit::Circuit;
-use crate::fault::CircuitFault;
+use crate::fault::CircuitRefusal;
 use crate::lines::{inputs_at, outs_at, sums_at};
 use crate::params::head_at;
 use crate::reading::{literal_at, no_circuit};
 use crate::results::are_results_right;
 use lists::List;
-use refusals::Refusal;
 use std::alloc::Global;
 
 /// The circuit that the whole text spells, and its ranges, width and bounds computed afresh. A fault means that it
 /// spells none.
 #[tactic(auto, unfolding(crate::specs::CircuitReading::circuit_of))]
-pub fn read_circuit(alloc: Global, bytes: &[u8]) -> Result<Circuit, Refusal<CircuitFault>>
+pub fn read_circuit(alloc: Global, bytes: &[u8]) -> Result<Circuit, CircuitRefusal>
     ensures exact { Gives (λ circuit. circuit) result (circuit_of bytes.now) }
     // What is read keeps the rules of circuits.
     ensures rules { IfOk result IsCircuit }

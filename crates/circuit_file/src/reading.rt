@@ -8,16 +8,16 @@ ghost use Rattle.circuit_file.specs.Limits.{number_limit};
 ghost use Rattle.circuit_file.specs.Reading.{text_fault, literal_at};
 ghost use Rattle.circuit_file.specs.Numbers.{is_numeral, numeral_value, digit_count, natural_at, integer_at, natural_field_at, integer_field_at};
 
-use crate::fault::{CircuitFault, CircuitKind};
+use crate::fault::{CircuitFault, CircuitKind, CircuitRefusal};
 use crate::limits::NUMBER_LIMIT;
 use refusals::Refusal;
 use std::str;
 
 /// A value at the front of a text, and the bytes after it.
-pub type Read<'a, T> = Result<(T, &'a [u8]), Refusal<CircuitFault>>;
+pub type Read<'a, T> = Result<(T, &'a [u8]), CircuitRefusal>;
 
 /// The refusal of a text that spells no circuit.
-pub fn no_circuit<T>() -> Result<T, Refusal<CircuitFault>>
+pub fn no_circuit<T>() -> Result<T, CircuitRefusal>
     ensures { result ≡ Err (Refusal.Fault text_fault) }
 {
     Err(Refusal::Fault(CircuitFault {
@@ -28,7 +28,7 @@ pub fn no_circuit<T>() -> Result<T, Refusal<CircuitFault>>
 
 /// The bytes after the literal text, where it stands at the front.
 #[tactic(auto, unfolding(crate::specs::Reading::literal_at))]
-pub fn literal_at<'a>(bytes: &'a [u8], literal: &[u8]) -> Result<&'a [u8], Refusal<CircuitFault>>
+pub fn literal_at<'a>(bytes: &'a [u8], literal: &[u8]) -> Result<&'a [u8], CircuitRefusal>
     ensures { Gives (λ rest. rest.now) result (literal_at literal.now bytes.now) }
 {
     match bytes.strip_prefix(literal) {
@@ -46,7 +46,7 @@ fn is_numeral(digits: &[u8]) -> bool
 
 /// The number that the digits spell, below 2^63.
 #[tactic(auto, using(crate::proofs::NumberLemmas::digits_utf8), unfolding(crate::specs::Numbers::numeral_value))]
-fn numeral_value(digits: &[u8]) -> Result<u64, Refusal<CircuitFault>>
+fn numeral_value(digits: &[u8]) -> Result<u64, CircuitRefusal>
     requires { AllDigits 10 digits.now }
     ensures value { Gives (λ value. value) result (numeral_value digits.now) }
     ensures limit { IfOk result (λ value. value < number_limit) }

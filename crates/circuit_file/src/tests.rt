@@ -1,6 +1,5 @@
 use super::*;
 use crate::circuit::{Gadget, Out, Range, Term};
-use refusals::Refusal;
 use std::alloc::{AllocError, Global};
 use std::test::*;
 
@@ -95,7 +94,10 @@ fn faults(rt: HostRuntime) -> Result<(), Fail> {
         let text = text_of(rt.alloc(), width, lines)?;
         let circuit = read_circuit(rt.alloc(), text.as_bytes());
         assert!(rt;
-            matches!(circuit, Err(Refusal::Fault(CircuitFault { line: 1, .. }))),
+            matches!(
+                circuit,
+                Err(CircuitRefusal::Fault(CircuitFault { line: 1, .. }))
+            ),
             "{width} {lines}"
         );
     }

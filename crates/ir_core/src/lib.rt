@@ -53,16 +53,20 @@ pub trait Level {
         ensures { result ≡ type_of op.now };
 
     /// The operands that are put are those that are read.
-    ghost put_is_read: { (op : Self.Op) (list : List ℕ) → length list ≡ length (operands op) → operands (with_operands op list) ≡ list };
+    ghost put_is_read: { (op : Self.Op) (list : List ℕ) → length list ≡ length (operands op)
+        → operands (with_operands op list) ≡ list };
 
     /// To put the operands that are there changes nothing.
     ghost own_put_is_same: { (op : Self.Op) → with_operands op (operands op) ≡ op };
 
     /// Operands that are put leave nothing of those put before.
-    ghost last_put_stays: { (op : Self.Op) (first last : List ℕ) → length first ≡ length (operands op) → length last ≡ length (operands op) → with_operands (with_operands op first) last ≡ with_operands op last };
+    ghost last_put_stays: { (op : Self.Op) (first last : List ℕ) → length first ≡ length (operands op)
+        → length last ≡ length (operands op)
+        → with_operands (with_operands op first) last ≡ with_operands op last };
 
     /// The type of what an operation gives does not hang on its operands.
-    ghost put_keeps_type: { (op : Self.Op) (list : List ℕ) → length list ≡ length (operands op) → type_of (with_operands op list) ≡ type_of op };
+    ghost put_keeps_type: { (op : Self.Op) (list : List ℕ) → length list ≡ length (operands op)
+        → type_of (with_operands op list) ≡ type_of op };
 }
 
 /// An operation that is handed back, since there was no memory for it.

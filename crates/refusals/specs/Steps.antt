@@ -23,8 +23,8 @@ pub no_value : {A F : Type 0} (fault : F) (read : Result A F) → Err fault ≡ 
 no_value fault read given = subst GaveFault given tt
 
 -- the value of a step, where the whole gave one
-pub value_of_step : {A B F : Type 0} (step : Result A F) (next : A → Result B F) (value : B) → (step >>= next) ≡ Ok value
-    → (x : A) × (step ≡ Ok x) × (next x ≡ Ok value)
+pub value_of_step : {A B F : Type 0} (step : Result A F) (next : A → Result B F) (value : B)
+    → (step >>= next) ≡ Ok value → (x : A) × (step ≡ Ok x) × (next x ≡ Ok value)
 value_of_step (Ok x) next value given = (x, refl, given)
 value_of_step (Err fault) next value given = absurd (no_value fault (Ok value) given)
 
