@@ -1,10 +1,10 @@
 -- Ciphertexts to which others are added, part by part.
-use Rattle.std.proofs.Common.{◌≡◌, ℕ, zero, suc, ◌+◌, ◌-◌, ◌*◌, ◌<◌, ◌≤◌, List, [], ◌∷◌, ◌++◌, map, length, get_or, replicate, arith, ap, sym, refl, ◌∙◌, subst}
+use Rattle.std.proofs.Common.{◌≡◌, ℕ, ◌+◌, ◌<◌, List, [], ◌∷◌, ◌++◌, map, length, get_or, replicate, arith, ap, sym, refl, ◌∙◌, subst}
 use Rattle.std.specs.List.{All, flat_map, range_with_len, zip}
-use Rattle.std.proofs.lemmas.List.{ext_get_or, map-append, map-id, append-nil, length-replicate, get_or-replicate, length-map, get_or-map, get_or_default}
+use Rattle.std.proofs.lemmas.List.{ext_get_or, map-append, map-id, append-nil, length-replicate, length-map, get_or-map}
 use Rattle.std.proofs.lemmas.List.Concat.{flat_map-append}
 use Rattle.std.proofs.lemmas.List.FromFn.{length-map-range_with_len, get_or-map-range_with_len, map-range_with_len_more}
-use Rattle.std.proofs.lemmas.List.Elements.{All-from_get_or, All-map, All-weaker, All-cons, All-nil}
+use Rattle.std.proofs.lemmas.List.Elements.{All-from_get_or, All-map, All-weaker}
 use Rattle.std.proofs.lemmas.Slice.Zip.{length-zip, get_or-zip}
 use Rattle.word_ring.specs.Words.{IsWord, word_sum}
 use Rattle.word_ring.specs.Rows.{row_sum, sum_of_rows, zip_rows, AllOfLength, RowLaws}

@@ -1,25 +1,25 @@
 -- The noise of an external product: that of the rows, and that of rounding to digits.
-use Rattle.std.proofs.Common.{◌≡◌, ℕ, zero, suc, ◌+◌, ◌-◌, ◌*◌, ◌<◌, ◌≤◌, ◌^◌, ◌%◌, Bool, true, false, cond, List, [], ◌∷◌, ◌++◌, map, length, get_or, replicate, arith, ap, sym, refl, ◌∙◌, subst, mul_comm, mul_assoc, one-mul, zero-mul, add-one}
-use Rattle.std.proofs.Math.Nat.{mul-le-mul_left, mul-le-mul_right, mul-le-mul}
+use Rattle.std.proofs.Common.{◌≡◌, ℕ, zero, suc, ◌+◌, ◌-◌, ◌*◌, ◌<◌, ◌≤◌, ◌^◌, ◌%◌, Bool, true, false, cond, List, [], ◌∷◌, map, length, get_or, replicate, arith, ap, sym, refl, ◌∙◌, subst, mul_assoc, zero-mul, add-one}
+use Rattle.std.proofs.Math.Nat.{mul-le-mul_left, mul-le-mul_right}
 use Rattle.std.specs.List.{All, flat_map, range_with_len, zip}
-use Rattle.std.proofs.lemmas.List.{ext_get_or, length-replicate, get_or-replicate, length-map, get_or-map, length-append, get_or_append_left, get_or-append_right}
+use Rattle.std.proofs.lemmas.List.{ext_get_or, length-replicate, get_or-replicate, length-map, get_or-map, get_or_append_left, get_or-append_right}
 use Rattle.std.proofs.lemmas.List.FromFn.{length-map-range_with_len, get_or-map-range_with_len, length-range_with_len, get_or-range_with_len}
 use Rattle.std.proofs.lemmas.List.Elements.{All-from_get_or, All-weaker, All-nil, All-append}
 use Rattle.std.proofs.lemmas.Slice.Zip.{length-zip, get_or-zip}
 use Rattle.std.proofs.lemmas.Bool.{cases_lt}
 use Rattle.std.proofs.Common.{⊎_elim}
-use Rattle.word_ring.specs.Words.{IsWord, word_sum, word_difference, word_product, word_negation, size}
+use Rattle.word_ring.specs.Words.{IsWord, word_difference, word_product, word_negation, size}
 use Rattle.word_ring.specs.Rows.{zip_words, row_sum, row_difference, scaled_row, scaled_rows, sum_of_rows, zip_rows, IsAdditive, AllOfLength, RowWithin, RowLaws}
-use Rattle.word_ring.specs.RowLaws.{RowRingLaws, RowSizeLaws, RowTotalLaws}
+use Rattle.word_ring.specs.RowLaws.{RowSizeLaws}
 use Rattle.lwe_core.specs.Secret.{bit_word, bit_words, ones_of}
 use Rattle.negacyclic.specs.Product.{negacyclic_product, monomial}
-use Rattle.negacyclic.specs.Laws.{ProductLaws, RotationLaws, ProductSizeLaws}
+use Rattle.negacyclic.specs.Laws.{ProductSizeLaws}
 use Rattle.gadget_decomp.specs.Decomposition.{IsGadget, place_weight, digit_polynomial, rounded_polynomial}
 use Rattle.gadget_decomp.specs.Laws.{PolynomialDigitLaws}
-use Rattle.glwe_core.specs.Glwe.{lengths_of, degree_of, FitsGlweKey, flat_key_of, glwe_phase}
+use Rattle.glwe_core.specs.Glwe.{degree_of, FitsGlweKey, flat_key_of, glwe_phase}
 use Rattle.glwe_core.specs.Laws.{GlwePhaseLaws, GlweSizeLaws}
 use Rattle.ggsw_core.specs.Ggsw.{GgswRows, row_place, row_of, sum_of_glwes, row_product, part_products, external_product, cmux_of}
-use Rattle.ggsw_core.specs.Noise.{part_factors, row_message, GgswFits, rows_noise, digits_noise, product_noise}
+use Rattle.ggsw_core.specs.Noise.{part_factors, row_message, GgswFits, product_noise}
 use Rattle.ggsw_core.proofs.Totals.{total, total-same, total-sum, total-scaled, total-mapped, total-within, length-total, total-flat, map-products, scaled-same, lengths_of_terms}
 use Rattle.ggsw_core.proofs.Phases.{Serving, counted, sum_fits, phase_of_sum, phase_by_parts, one_times, minus_zeros}
 

@@ -1,12 +1,12 @@
 -- Phases of sums of ciphertexts, and phases as sums over parts.
-use Rattle.std.proofs.Common.{◌≡◌, ℕ, zero, suc, ◌+◌, ◌-◌, ◌*◌, ◌<◌, ◌≤◌, ◌^◌, ◌%◌, Bool, List, [], ◌∷◌, ◌++◌, map, length, get_or, replicate, arith, ap, sym, refl, ◌∙◌, subst}
-use Rattle.std.specs.List.{All, range_with_len, zip}
+use Rattle.std.proofs.Common.{◌≡◌, ℕ, suc, ◌+◌, ◌<◌, ◌^◌, Bool, List, [], ◌∷◌, map, length, get_or, replicate, arith, ap, sym, refl, ◌∙◌}
+use Rattle.std.specs.List.{All, zip}
 use Rattle.std.proofs.lemmas.List.{ext_get_or, length-replicate, get_or-replicate, length-map, get_or-map}
 use Rattle.std.proofs.lemmas.List.FromFn.{length-map-range_with_len, get_or-map-range_with_len}
 use Rattle.std.proofs.lemmas.List.Elements.{All-head, All-tail, All-from_get_or, All-map, All-weaker}
 use Rattle.std.proofs.lemmas.Slice.Zip.{length-zip, get_or-zip}
 use Rattle.word_ring.specs.Words.{IsWord, word_sum, word_difference, word_product, word_negation}
-use Rattle.word_ring.specs.Rows.{row_sum, row_difference, scaled_row, sum_of_rows, zip_rows, AllOfLength, RowLaws}
+use Rattle.word_ring.specs.Rows.{row_sum, row_difference, scaled_row, sum_of_rows, zip_rows, RowLaws}
 use Rattle.word_ring.specs.RowLaws.{RowRingLaws, RowTotalLaws}
 use Rattle.lwe_core.specs.Secret.{bit_words}
 use Rattle.negacyclic.specs.Product.{negacyclic_product, monomial}
@@ -15,7 +15,7 @@ use Rattle.glwe_core.specs.Glwe.{degree_of, FitsGlweKey, body_of, mask_products,
 use Rattle.glwe_core.specs.Laws.{GlwePhaseLaws}
 use Rattle.ggsw_core.specs.Ggsw.{sum_of_glwes}
 use Rattle.ggsw_core.specs.Noise.{part_factors}
-use Rattle.ggsw_core.proofs.Totals.{total, same_range, total-shifted}
+use Rattle.ggsw_core.proofs.Totals.{total, total-shifted}
 
 -- no term
 no_terms : (parts n : ℕ) → sum_of_glwes parts n [] ≡ replicate parts (replicate {A = ℕ} n 0)

@@ -1,14 +1,15 @@
 -- The shapes of the rows of a GGSW ciphertext.
-use Rattle.std.proofs.Common.{◌≡◌, ◌≢◌, ⊎_elim, ℕ, zero, suc, ◌+◌, ◌-◌, ◌*◌, ◌<◌, ◌≤◌, ◌^◌, List, [], ◌∷◌, map, length, get_or, set, replicate, arith, ap, sym, refl, ◌∙◌, subst, get_or-set_same, get_or-set_other}
+use Rattle.std.proofs.Common.{◌≡◌, ◌≢◌, ⊎_elim, ℕ, zero, suc, ◌+◌, ◌-◌, ◌*◌, ◌<◌, ◌≤◌, List, [], ◌∷◌, length, get_or, set, replicate, arith, ap, sym, refl, ◌∙◌, subst, get_or-set_same, get_or-set_other}
 use Rattle.std.proofs.Math.Nat.{mul-le-mul_right}
 use Rattle.std.proofs.Math.ListN.{length-set}
 use Rattle.std.specs.List.{All}
-use Rattle.std.proofs.lemmas.List.{ext_get_or, length-replicate, get_or-replicate, length-map, get_or-map}
-use Rattle.std.proofs.lemmas.List.Elements.{All-from_get_or, All-set, All-replicate, All-weaker}
+use Rattle.std.proofs.lemmas.List.{ext_get_or, length-replicate, get_or-replicate, length-map, get_or-map, map-set, set-get_or}
+use Rattle.std.proofs.lemmas.List.Elements.{All-set, All-replicate}
 use Rattle.std.proofs.lemmas.Bool.{cases_eq}
+use Rattle.std.proofs.lemmas.Nat.{same_from_place}
 use Rattle.gadget_decomp.specs.Decomposition.{IsGadget}
 use Rattle.glwe_core.specs.Glwe.{lengths_of, degree_of, HasShape}
-use Rattle.ggsw_core.specs.Ggsw.{GgswRows, IsGgsw, row_lengths, row_place, row_of, zero_ggsw}
+use Rattle.ggsw_core.specs.Ggsw.{GgswRows, IsGgsw, row_lengths, row_place, row_of, zero_ggsw, HasRow, ExchangeLaws}
 use Rattle.ggsw_core.proofs.Additions.{OfShape, of_lengths, own_shape}
 
 -- a place of a part stands before the last row
@@ -93,3 +94,34 @@ zero_is_ggsw parts n base level some few gadget =
       shape = subst HasShape (sym first) row_is;
       shapes = All-replicate (λ row. lengths_of row ≡ lengths_of (get_or rows 0 [])) (parts * level) row (sym lengths);
     }
+
+lengths_at : (c : List (List ℕ)) (at : ℕ) → get_or (lengths_of c) at 0 ≡ length (get_or c at [])
+lengths_at [] at = refl
+lengths_at (x ∷ xs) zero = refl
+lengths_at (x ∷ xs) (suc at) = lengths_at xs at
+
+-- setting a coefficient keeps the lengths
+pub set_lengths : (c : List (List ℕ)) (at place word : ℕ) → lengths_of (set c at (set (get_or c at []) place word)) ≡ lengths_of c
+set_lengths c at place word =
+    map-set length c at (set (get_or c at []) place word)
+    ∙ ap (set (lengths_of c) at) (length-set (get_or c at []) place word ∙ sym (lengths_at c at))
+    ∙ set-get_or (lengths_of c) at 0
+
+-- no two rows stand at one place
+places_differ : (level j t i u : ℕ) → 1 ≤ t → t ≤ level → 1 ≤ u → u ≤ level → (j ≡ i → t ≡ u → ⊥) → i * level + (u - 1) ≢ j * level + (t - 1)
+places_differ level j t i u first last first' last' apart = λ same.
+    let both = same_from_place i (u - 1) j (t - 1) level (omega arith) (omega arith) same in
+    let part : j ≡ i = omega arith in
+    let place : t ≡ u = omega arith in
+    apart part place
+
+has_inside : (g : GgswRows) (j t : ℕ) → IsGgsw g → HasRow g j t → row_place g j t < length g.rows
+has_inside g j t is has = omega (arith, is.number, place_inside j t g.level (length (row_lengths g)) has.part has.first has.last)
+
+pub exchanges : ExchangeLaws
+exchanges = record {
+  lengths_stay = λ g j t row is has same. first_lengths g (row_place g j t) row (has_inside g j t is has) same;
+  stays_ggsw = λ g j t row is has same. row_exchanged g (row_place g j t) row is (has_inside g j t is has) same;
+  row_set = λ g j t row is has. get_or-set_same g.rows (row_place g j t) row [] (has_inside g j t is has);
+  others_stay = λ g j t i u row has other apart. get_or-set_other g.rows (row_place g j t) (row_place g i u) row [] (places_differ g.level j t i u has.first has.last other.first other.last apart);
+}

@@ -1,16 +1,15 @@
 -- What the loops of an external product have added.
-use Rattle.std.proofs.Common.{◌≡◌, ℕ, ◌+◌, ◌-◌, ◌<◌, ◌≤◌, List, [], ◌∷◌, ◌++◌, map, length, get_or, replicate, arith, ap, sym, refl, ◌∙◌, subst}
-use Rattle.std.specs.List.{All, flat_map, range_with_len, zip}
-use Rattle.std.proofs.lemmas.List.{ext_get_or, length-map, get_or-map, length-replicate}
-use Rattle.std.proofs.lemmas.List.FromFn.{map-range_with_len_more, length-map-range_with_len, get_or-map-range_with_len, length-range_with_len, get_or-range_with_len}
-use Rattle.std.proofs.lemmas.List.Elements.{All-from_get_or, All-cons, All-nil, All-append}
-use Rattle.word_ring.specs.Words.{IsWord, word_difference}
-use Rattle.word_ring.specs.Rows.{row_sum, row_difference, sum_of_rows, zip_rows, AllOfLength}
-use Rattle.negacyclic.specs.Product.{negacyclic_product}
+use Rattle.std.proofs.Common.{◌≡◌, ℕ, ◌+◌, ◌<◌, ◌≤◌, List, [], ◌∷◌, map, length, get_or, replicate, arith, ap, sym, refl, ◌∙◌, subst}
+use Rattle.std.specs.List.{All, flat_map, range_with_len}
+use Rattle.std.proofs.lemmas.List.{ext_get_or, length-map, get_or-map}
+use Rattle.std.proofs.lemmas.List.FromFn.{map-range_with_len_more, length-map-range_with_len, get_or-map-range_with_len}
+use Rattle.std.proofs.lemmas.List.Elements.{All-from_get_or, All-cons, All-nil}
+use Rattle.word_ring.specs.Words.{IsWord}
+use Rattle.word_ring.specs.Rows.{row_sum, row_difference, zip_rows}
 use Rattle.gadget_decomp.specs.Decomposition.{digit_polynomial}
 use Rattle.glwe_core.specs.Glwe.{lengths_of, degree_of, HasShape, plus_product}
 use Rattle.ggsw_core.specs.Ggsw.{GgswRows, IsGgsw, row_lengths, row_of, row_product, part_products, all_products, plus_all, sum_of_glwes, external_product, cmux_of}
-use Rattle.ggsw_core.proofs.Additions.{Adding, OfShape, plus_none, plus_one, plus_more, plus_to_zeros, product_shape, same_sum, of_lengths, own_shape, flat_more, zip_rows_at, length-zip_rows}
+use Rattle.ggsw_core.proofs.Additions.{Adding, OfShape, plus_none, plus_one, plus_more, plus_to_zeros, product_shape, of_lengths, own_shape, flat_more, zip_rows_at, length-zip_rows}
 use Rattle.ggsw_core.proofs.Rows.{row_shape}
 use Rattle.ggsw_core.proofs.NoiseParts.{each_product}
 
@@ -51,29 +50,27 @@ pub begun : Adding → (g : GgswRows) (c into : List (List ℕ)) → Fitting g c
 begun laws g c into fits same words =
     sym (plus_none laws (length c) (degree_of c) into (some_parts g c fits) (of_lengths (length c) (degree_of c) c into same (own g c fits)) words)
 
+-- digits by the same bits and number
+pub digit_same : (b base l level t : ℕ) (p : List ℕ) → b ≡ base → l ≡ level → digit_polynomial b l t p ≡ digit_polynomial base level t p
+digit_same b base l level t p e f = ap (λ x. digit_polynomial x l t p) e ∙ ap (λ x. digit_polynomial base x t p) f
+
 -- the product of a further place is added
-pub place_added : Adding → (g : GgswRows) (c into before after : List (List ℕ)) (digit part : List ℕ) (row : List (List ℕ)) (j t base level : ℕ) → Fitting g c → lengths_of into ≡ lengths_of c → lengths_of before ≡ lengths_of into → j < length c → t < g.level → before ≡ plus_all into (map (row_product g c j) (range_with_len 1 t)) → after ≡ plus_product before digit row → digit ≡ digit_polynomial base level (t + 1) part → part ≡ get_or c j [] → row ≡ row_of g j (t + 1) → base ≡ g.base → level ≡ g.level → after ≡ plus_all into (map (row_product g c j) (range_with_len 1 (t + 1)))
-place_added laws g c into before after digit part row j t base level fits same kept inside below before_is after_is digit_is part_is row_is base_is level_is =
+pub place_added : Adding → (g : GgswRows) (c into before after : List (List ℕ)) (j t : ℕ) → Fitting g c → lengths_of into ≡ lengths_of c → lengths_of before ≡ lengths_of into → j < length c → t < g.level → before ≡ plus_all into (map (row_product g c j) (range_with_len 1 t)) → after ≡ plus_product before (digit_polynomial g.base g.level (t + 1) (get_or c j [])) (row_of g j (t + 1)) → after ≡ plus_all into (map (row_product g c j) (range_with_len 1 (t + 1)))
+place_added laws g c into before after j t fits same kept inside below before_is after_is =
     let parts : ℕ = length c in
     let n : ℕ = degree_of c in
     let into_shape : OfShape parts n into = of_lengths parts n c into same (own g c fits) in
     let before_shape : OfShape parts n before = of_lengths parts n into before kept into_shape in
     let d : List ℕ = digit_polynomial g.base g.level (t + 1) (get_or c j []) in
     let d_long : length d ≡ n = length-map (get_or c j []) _ ∙ fits.shape.lengths j [] inside in
-    let d_is : digit ≡ d =
-    digit_is ∙ ap (λ b. digit_polynomial b level (t + 1) part) base_is ∙ ap (λ l. digit_polynomial g.base l (t + 1) part) level_is
-    ∙ ap (digit_polynomial g.base g.level (t + 1)) part_is in
     let r : List (List ℕ) = row_of g j (t + 1) in
     let r_shape : OfShape parts n r = of_lengths parts n c r (row_shape g c j (t + 1) fits.is fits.rows inside (omega arith) (omega arith)) (own g c fits) in
-    let terms : List (List (List ℕ)) = map (row_product g c j) (range_with_len 1 t) in
     let last : List (List (List ℕ)) = row_product g c j (t + 1) ∷ [] in
     let last_fits : All (OfShape parts n) last = All-cons (OfShape parts n) (row_product g c j (t + 1)) [] (product_fits laws g c j (t + 1) fits inside (omega arith) (omega arith)) (All-nil (OfShape parts n)) in
     after_is
-    ∙ ap (λ x. plus_product before x row) d_is
-    ∙ ap (plus_product before d) row_is
     ∙ plus_one laws parts n before d r (some_parts g c fits) before_shape r_shape d_long
     ∙ ap (λ x. plus_all x last) before_is
-    ∙ plus_more laws parts n into terms last (some_parts g c fits) into_shape (part_fits laws g c j t fits inside (omega arith)) last_fits
+    ∙ plus_more laws parts n into (map (row_product g c j) (range_with_len 1 t)) last (some_parts g c fits) into_shape (part_fits laws g c j t fits inside (omega arith)) last_fits
     ∙ ap (plus_all into) (sym (map-range_with_len_more (row_product g c j) 1 t (t + 1) (omega arith)))
 
 -- the products of a further part are added

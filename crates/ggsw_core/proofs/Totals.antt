@@ -1,7 +1,7 @@
 -- Sums of rows that are made of numbers from a first one on.
-use Rattle.std.proofs.Common.{◌≡◌, ℕ, zero, suc, ◌+◌, ◌<◌, ◌^◌, ◌%◌, List, [], ◌∷◌, ◌++◌, map, length, get_or, replicate, arith, ap, sym, refl, ◌∙◌, ◌*◌, subst}
-use Rattle.std.specs.List.{All, flat_map, range_with_len, zip}
-use Rattle.std.proofs.lemmas.List.{ext_get_or, map-append, length-replicate, get_or-replicate, length-map}
+use Rattle.std.proofs.Common.{◌≡◌, ℕ, zero, suc, ◌+◌, ◌<◌, List, [], ◌∷◌, ◌++◌, map, length, replicate, arith, ap, sym, refl, ◌∙◌, ◌*◌, subst}
+use Rattle.std.specs.List.{All, flat_map, range_with_len}
+use Rattle.std.proofs.lemmas.List.{ext_get_or, map-append, length-replicate}
 use Rattle.std.proofs.lemmas.List.FromFn.{length-map-range_with_len, get_or-map-range_with_len}
 use Rattle.std.proofs.lemmas.List.Elements.{All-append, All-head, All-tail, All-from_get_or, All-nil, All-replicate}
 use Rattle.std.proofs.lemmas.Simd.{map-map}

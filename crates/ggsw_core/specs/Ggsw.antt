@@ -1,5 +1,5 @@
 -- GGSW ciphertexts: the lists of their rows, each a GLWE ciphertext (Chillotti et al. 2020, where they are TRGSW).
-use Rattle.std.specs.Prelude.{◌≡◌, ℕ, ◌+◌, ◌-◌, ◌*◌, List, [], All, length, map, replicate, slice_set}
+use Rattle.std.specs.Prelude.{◌≡◌, ℕ, ◌+◌, ◌-◌, ◌*◌, ◌<◌, ◌≤◌, List, [], All, length, map, replicate, slice_set}
 use Rattle.std.specs.List.{flat_map, range_with_len, slice_index_or}
 use Rattle.word_ring.specs.Rows.{row_sum, row_difference, sum_of_rows, zip_rows}
 use Rattle.negacyclic.specs.Product.{negacyclic_product}
@@ -66,3 +66,24 @@ external_product g c = sum_of_glwes (length c) (degree_of c) (all_products g c)
 -- CMux: acc plus the external product with what `other` has more
 abbrev pub cmux_of : GgswRows → List (List ℕ) → List (List ℕ) → List (List ℕ)
 cmux_of g acc other = zip_rows row_sum acc (external_product g (zip_rows row_difference other acc))
+
+-- there is a row of part j at place t
+pub record HasRow (g : GgswRows) (j t : ℕ) : Type 0 where
+  pub part : j < length (row_lengths g)
+  pub first : 1 ≤ t
+  pub last : t ≤ g.level
+
+-- what an exchanged row leaves
+pub record ExchangeLaws : Type 0 where
+  -- rows of the same shape
+  pub lengths_stay : (g : GgswRows) (j t : ℕ) (row : List (List ℕ)) → IsGgsw g → HasRow g j t
+      → lengths_of row ≡ row_lengths g → row_lengths (with_row g j t row) ≡ row_lengths g
+  -- of a GGSW ciphertext
+  pub stays_ggsw : (g : GgswRows) (j t : ℕ) (row : List (List ℕ)) → IsGgsw g → HasRow g j t
+      → lengths_of row ≡ row_lengths g → IsGgsw (with_row g j t row)
+  -- the row in its place
+  pub row_set : (g : GgswRows) (j t : ℕ) (row : List (List ℕ)) → IsGgsw g → HasRow g j t
+      → row_of (with_row g j t row) j t ≡ row
+  -- and every other row where it stood
+  pub others_stay : (g : GgswRows) (j t i u : ℕ) (row : List (List ℕ)) → HasRow g j t → HasRow g i u
+      → (j ≡ i → t ≡ u → ⊥) → row_of (with_row g j t row) i u ≡ row_of g i u

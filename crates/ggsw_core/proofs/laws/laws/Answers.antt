@@ -1,8 +1,12 @@
 use Rattle.ggsw_core.proofs.NoiseParts.{NoiseServing, external_noise, cmux_noise}
+use Rattle.ggsw_core.proofs.Rows.{exchanges}
 use Rattle.ggsw_core.proofs.laws.laws.Goals as goal
 
-pub returns : goal.returns
-returns c =
+pub returns-clause-exchange : goal.returns-clause-exchange
+returns-clause-exchange c = exchanges
+
+pub returns-clause-noise : goal.returns-clause-noise
+returns-clause-noise c =
     let laws : NoiseServing = record {
       plain = record { rows = c.laws.ensures.rows; ring = c.laws.ensures.row_ring; totals = c.laws.ensures.row_totals; products = c.laws-2.ensures.products; rotations = c.laws-2.ensures.rotations };
       sizes = c.laws.ensures.row_sizes;

@@ -1,9 +1,9 @@
-use Rattle.std.proofs.Common.{arith, ap, sym, refl, ◌∙◌, ◌+◌, [], length}
+use Rattle.std.proofs.Common.{arith, ap, sym, refl, ◌∙◌, ◌+◌, [], length, get_or}
 use Rattle.std.proofs.lemmas.List.{length-map}
 use Rattle.glwe_core.specs.Glwe.{lengths_of}
 use Rattle.ggsw_core.proofs.Additions.{Adding}
 use Rattle.ggsw_core.proofs.Rows.{row_shape}
-use Rattle.ggsw_core.proofs.Steps.{Fitting, begun, place_added}
+use Rattle.ggsw_core.proofs.Steps.{Fitting, begun, digit_same, place_added}
 use Rattle.ggsw_core.proofs.products.add_part.Goals as goal
 
 pub loop-t-init : goal.loop-t-init
@@ -23,8 +23,8 @@ loop-t-preserved c =
     let fits : Fitting c.args.g.now c.args.c.now = record { is = c.known-3.ensures; rows = c.requires.rows; shape = c.known-2.ensures.shape } in
     record {
       added =
-          place_added laws c.args.g.now c.args.c.now c.args.into.now c.loop-t.into c.add_product.new.into c.poly_digit_into.new.out c.part.result.now c.row.result.now c.args.j c.loop-t.t c.base.result c.level.result
-          fits c.requires.into c.loop-t.invariant.shape c.requires.part (omega arith) c.loop-t.invariant.added c.add_product.ensures.parts c.poly_digit_into.ensures.words c.part.ensures c.row.ensures c.base.ensures c.level.ensures;
+          place_added laws c.args.g.now c.args.c.now c.args.into.now c.loop-t.into c.add_product.new.into c.args.j c.loop-t.t fits c.requires.into c.loop-t.invariant.shape c.requires.part (omega arith) c.loop-t.invariant.added
+          (cc (digit_same c.base.result c.args.g.now.base c.level.result c.args.g.now.level (c.loop-t.t + 1) (get_or c.args.c.now c.args.j []) c.base.ensures c.level.ensures));
       shape = c.add_product.ensures.shape ∙ c.loop-t.invariant.shape;
       degree = ap length c.poly_digit_into.ensures.words ∙ length-map c.part.result.now _ ∙ ap length c.part.ensures ∙ c.known-2.ensures.shape.lengths c.args.j [] c.requires.part ∙ sym c.requires.degree;
       room = c.add_product.ensures.room_stays ∙ c.loop-t.invariant.room;

@@ -1,5 +1,5 @@
 use Rattle.std.proofs.Common.{arith, sym, subst, ◌∙◌, ◌+◌, ◌*◌, ◌^◌, ◌≡◌, ap, replicate, List, ℕ}
-use Rattle.ggsw_core.specs.Ggsw.{IsGgsw, GgswRows}
+use Rattle.ggsw_core.specs.Ggsw.{IsGgsw}
 use Rattle.ggsw_core.proofs.Rows.{zero_is_ggsw}
 use Rattle.ggsw_core.proofs.ggsw.Ggsw.new.Goals as goal
 

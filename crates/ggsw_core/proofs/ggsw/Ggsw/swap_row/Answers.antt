@@ -1,4 +1,4 @@
-use Rattle.std.proofs.Common.{arith, sym, subst, ◌<◌, length, set, List, ℕ, ◌≡◌, ap, ◌∙◌}
+use Rattle.std.proofs.Common.{sym, subst, ◌<◌, length, set, List, ℕ, ap, ◌∙◌}
 use Rattle.ggsw_core.specs.Ggsw.{GgswRows, IsGgsw, row_lengths}
 use Rattle.ggsw_core.proofs.Rows.{row_exchanged}
 use Rattle.ggsw_core.proofs.ggsw.Ggsw.swap_row.Goals as goal
