@@ -186,8 +186,11 @@ phase-extracted rows laws n key parts some is =
     ∙ sym (rows.zip_word word_difference body sum 0 (omega (arith, length-body n key parts is, some)) (omega (arith, length-sum_at laws n key parts is, some)))
     ∙ ap (λ p. get_or p 0 0) (sym (phase_is n key parts is))
 
+pub extracted-fits : (n : ℕ) (key : List (List Bool)) (xs : List (List ℕ)) → FitsGlweKey n key xs → FitsKey (flat_key_of key) (extracted xs)
+extracted-fits n key xs is = ap length (extracted_is n key xs (fits n key xs is)) ∙ length-extracted_at n key xs (fits n key xs is)
+
 pub laws : RowLaws → ProductLaws → ExtractionLaws
 laws rows products = record {
-  extracted_fits = λ n key xs is. ap length (extracted_is n key xs (fits n key xs is)) ∙ length-extracted_at n key xs (fits n key xs is);
+  extracted_fits = extracted-fits;
   phase_extracted = λ n key xs some is. phase-extracted rows products n key xs some (fits n key xs is);
 }

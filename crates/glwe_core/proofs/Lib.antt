@@ -6,4 +6,5 @@ pub mod ExtractionLoops
 pub mod ExtractedPhase
 pub mod KeyLoops
 pub mod PhaseLoops
+pub mod TestSizes
 pub mod Examples

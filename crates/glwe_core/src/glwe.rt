@@ -64,7 +64,8 @@ impl Glwe {
     pub fn set(&mut self, at: u32, place: usize, word: u64)
         requires part { at < length self.old }
         requires place { place < degree_of self.old }
-        ensures { self.new ≡ slice_set self.old at (slice_set (slice_index_or self.old at []) place word) }
+        ensures parts { self.new ≡ slice_set self.old at (slice_set (slice_index_or self.old at []) place word) }
+        ensures shape { lengths_of self.new ≡ lengths_of self.old }
     {
         self.parts[at as usize].set(place, word);
     }

@@ -42,7 +42,7 @@ fn poly_at(alloc: Global, log_n: u32, flat: &LweKey<Big>, at: usize) -> Result<P
     let end = flat.len();
     let mut poly = Poly::new(alloc, log_n)?;
     for i in 0..poly.coeffs().len() {
-        prove!(at <= end - i);
+        prove!(i < end - at);
         poly.set(i, word_of_bit(flat.bit(at + i)));
     }
     Ok(poly)

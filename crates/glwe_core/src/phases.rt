@@ -116,6 +116,7 @@ pub fn seal_glwe(key: &GlweKey, c: &mut Glwe, message: &Poly, errors: &[i64], sc
     requires room { degree_of c.old ≡ 2 ^ scratch.old }
     ensures parts { c.new ≡ sealed_glwe key.now c.old (row_sum message.now (map word_of_number errors.now)) }
     ensures phase { glwe_phase key.now c.new ≡ row_sum message.now (map word_of_number errors.now) }
+    ensures shape { lengths_of c.new ≡ lengths_of c.old }
     ensures room_stays { scratch.new ≡ scratch.old }
 {
     seal_parts(c.parts.as_mut_slice(), key, message, errors, scratch);
@@ -125,7 +126,8 @@ pub fn seal_glwe(key: &GlweKey, c: &mut Glwe, message: &Poly, errors: &[i64], sc
 /// Sets `c` to the ciphertext with mask 0 and this body (Chillotti et al. 2020, trivial TRLWE samples).
 pub fn trivial_into(c: &mut Glwe, body: &Poly)
     requires { length body.now ≡ degree_of c.old }
-    ensures { c.new ≡ trivial_glwe (length c.old - 1) body.now }
+    ensures parts { c.new ≡ trivial_glwe (length c.old - 1) body.now }
+    ensures shape { lengths_of c.new ≡ lengths_of c.old }
 {
     parts::make_trivial(c.parts.as_mut_slice(), body);
 }
