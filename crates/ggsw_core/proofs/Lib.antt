@@ -4,3 +4,4 @@ pub mod NoiseParts
 pub mod Additions
 pub mod Rows
 pub mod Steps
+mod Examples

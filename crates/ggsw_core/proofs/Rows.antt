@@ -34,6 +34,8 @@ shape_by_lengths xs ys e shape =
     record {
       some = omega (arith, moved.number, shape.some);
       few = omega (arith, moved.number, shape.few);
+      least = omega (arith, degree, shape.least);
+      most = omega (arith, degree, shape.most);
       lengths = subst (λ n. All (λ row. length row ≡ n) ys) (sym degree) moved.lengths;
     }
 
@@ -72,12 +74,12 @@ zero_lengths parts n =
     ∙ sym (get_or-replicate parts i n 0 inside))
 
 -- one whose rows are 0
-pub zero_is_ggsw : (parts n base level : ℕ) → 2 ≤ parts → parts ≤ 4 → IsGadget base level → IsGgsw (zero_ggsw parts n base level)
-zero_is_ggsw parts n base level some few gadget =
+pub zero_is_ggsw : (parts n base level : ℕ) → 2 ≤ parts → parts ≤ 4 → 2 ≤ n → n ≤ 8192 → IsGadget base level → IsGgsw (zero_ggsw parts n base level)
+zero_is_ggsw parts n base level some few least most gadget =
     let row : List (List ℕ) = replicate parts (replicate n 0) in
     let rows : List (List (List ℕ)) = replicate (parts * level) row in
     let rows_long : length rows ≡ parts * level = length-replicate (parts * level) row in
-    let least : 1 * level ≤ parts * level = mul-le-mul_right level (omega arith) in
+    let once : 1 * level ≤ parts * level = mul-le-mul_right level (omega arith) in
     let first : get_or rows 0 [] ≡ row = get_or-replicate (parts * level) 0 row [] (omega (arith, gadget.some_digits)) in
     let lengths : lengths_of (get_or rows 0 []) ≡ lengths_of row = ap lengths_of first in
     let row_long : length row ≡ parts = length-replicate parts (replicate {A = ℕ} n 0) in
@@ -86,6 +88,8 @@ zero_is_ggsw parts n base level some few gadget =
     let row_is : HasShape row = record {
       some = omega arith;
       few = omega arith;
+      least = omega arith;
+      most = omega arith;
       lengths = subst (λ m. All (λ part. length part ≡ m) row) (sym degree) row_parts;
     } in
     record {
