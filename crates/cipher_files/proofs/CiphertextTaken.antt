@@ -1,9 +1,9 @@
 -- What is read from bytes is spelled by them.
-use Rattle.std.proofs.Common.{◌≡◌, ℕ, zero, suc, ◌+◌, ◌-◌, ◌*◌, ◌^◌, ◌<◌, ◌≤◌, ℤ, pos, negsuc, int_le, Bool, true, false, ◌&&◌, ◌==◌, cond, nat_le, List, [], ◌∷◌, ◌++◌, length, take, drop, All, Option, Some, None, Result, Ok, Err, bytes_eq, refl, sym, ap, subst, ◌∙◌, append_assoc, T, zero-mul, length-append, arith}
+use Rattle.std.proofs.Common.{◌≡◌, ℕ, zero, suc, ◌+◌, ◌-◌, ◌*◌, ◌^◌, ◌<◌, ◌≤◌, ℤ, pos, negsuc, int_le, Bool, true, ◌&&◌, ◌==◌, nat_le, List, [], ◌∷◌, ◌++◌, length, take, drop, All, Result, Ok, Err, bytes_eq, refl, sym, ap, subst, ◌∙◌, append_assoc, T, zero-mul, length-append, arith}
 use Rattle.std.specs.Prelude.{IfOk}
 use Rattle.std.specs.Global.{Vec}
 use Rattle.word_ring.specs.Words.{centred}
-use Rattle.word_ring.specs.Signed.{word_of, SignedLaws}
+use Rattle.word_ring.specs.Signed.{word_of}
 use Rattle.std.specs.List.{flat_map, AllByRecursion}
 use Rattle.std.specs.Simd.{first_chunks}
 use Rattle.std.proofs.Math.Seq.{take-add}
@@ -13,56 +13,53 @@ use Rattle.std.proofs.lemmas.List.Concat.{flat_map-cons}
 use Rattle.std.proofs.lemmas.List.Elements.{All-from_recursion, All-map}
 use Rattle.std.proofs.lemmas.Slice.Eq.{bytes_eq-Decides}
 use Rattle.sha2.specs.Sha256.{sha256}
-use Rattle.cipher_files.specs.declared.fault.FileRefusal.{FileRefusal}
+use Rattle.refusals.specs.declared.refusal.Refusal.{Refusal}
+use Rattle.cipher_files.specs.declared.fault.FileFault.{FileFault}
+use Rattle.cipher_files.specs.declared.fault.FileFault.TheVariants.{Later}
 use Rattle.cipher_files.specs.declared.head.CipherHead.{CipherHead}
 use Rattle.cipher_files.specs.CiphertextFile.{CiphertextFile, magic, word_bytes, range_bytes, words_bytes, ciphertext_file_body, ciphertext_bytes, IsRange, HasFileLimits, IsCiphertextFile, file_of}
 use Rattle.circuit_file.specs.Ranges.{is_input_range}
-use Rattle.circuit_file.specs.Reading.{◌>>=◌}
-use Rattle.cipher_files.specs.CiphertextReading.{check, Gives, word_in, word_at, number_within, counts_of, is_sealed, range_of, ranges_of, words_of, ciphertexts_of, ciphertext_file_of}
-use Rattle.cipher_files.proofs.CiphertextWords.{IsCiphertext, IsBytes, IsBytes-take, IsBytes-drop, all_bytes, bytes_again, word_fits}
-use Rattle.cipher_files.proofs.ReadingLemmas.{bind_some}
+use Rattle.refusals.specs.Reading.{◌>>=◌, Gives}
+use Rattle.cipher_files.specs.Laws.{CiphertextFileLaws}
+use Rattle.cipher_files.specs.CiphertextReading.{Read, check, word_of_bytes, word_in, number_within, counts_of, is_sealed, range_of, ranges_of, words_of, ciphertexts_of, ciphertext_file_of}
+use Rattle.cipher_files.proofs.CiphertextWords.{LowerLaws, IsCiphertext, IsBytes, IsBytes-take, IsBytes-drop, all_bytes, bytes_again, word_fits}
+use Rattle.refusals.specs.Steps.{one_value, value_of_step, test_held}
 use Rattle.cipher_files.proofs.CiphertextPieces.{cut}
 
 -- a check that did not fail
-checked : {B : Type 0} (test : Bool) (rest : Option B) (y : B) → (check test >>= λ _. rest) ≡ Some y → (test ≡ true) × (rest ≡ Some y)
-checked true rest y e = (refl, e)
-checked false rest y e = absurd cc
+checked : {B : Type 0} (test : Bool) (rest : Read B) (y : B) → (check test >>= λ _. rest) ≡ Ok y → (test ≡ true) × (rest ≡ Ok y)
+checked test rest y e = test_held test Later (λ _. rest) y e
 
-some : {A : Type 0} → A → Option A
-some x = Some x
+some : {A : Type 0} → A → Read A
+some x = Ok x
 
-some_is : {A : Type 0} (x y : A) → ◌≡◌ {A = Option A} (Some x) (Some y) → x ≡ y
-some_is x y e = cc
+some_is : {A : Type 0} (x y : A) → ◌≡◌ {A = Read A} (Ok x) (Ok y) → x ≡ y
+some_is {A = A} x y e = let read : Read A = Ok y in one_value x read e
 
-cond_some : {A : Type 0} (test : Bool) (x y : A) → cond test (Some x) None ≡ Some y → (test ≡ true) × (x ≡ y)
-cond_some true x y e = (refl, cc)
-cond_some false x y e = absurd cc
-
-number_taken : (least most number x : ℕ) → number_within least most number ≡ Some x → (number ≡ x) × (least ≤ x) × (x ≤ most)
+number_taken : (least most number x : ℕ) → number_within least most number ≡ Ok x → (number ≡ x) × (least ≤ x) × (x ≤ most)
 unfolding number_within
 number_taken least most number x e =
-    let a = cond_some (nat_le least number && nat_le number most) number x e in
+    let a = checked (nat_le least number && nat_le number most) (Ok number) x e in
     let b = and_parts (nat_le least number) (nat_le number most) a.0 in
-    (a.1, rw (← a.1) (leb-true least number b.0), rw (← a.1) (leb-true number most b.1))
+    let same : number ≡ x = some_is number x a.1 in
+    (same, rw (← same) (leb-true least number b.0), rw (← same) (leb-true number most b.1))
 
 -- ---- ranges
 
-range_taken : SignedLaws → (bytes : List ℕ) (range : ℤ × ℤ) → IsBytes bytes → length bytes ≡ 16 → range_of bytes ≡ Some range → (range_bytes range ≡ bytes) × IsRange range
+range_taken : LowerLaws → (bytes : List ℕ) (range : ℤ × ℤ) → IsBytes bytes → length bytes ≡ 16 → range_of bytes ≡ Ok range → (range_bytes range ≡ bytes) × IsRange range
 unfolding range_of
-range_taken signed bytes range fits len e =
-    let back : (w : ℕ) → w < 2 ^ 64 → word_of (centred w) ≡ w = λ w small. signed.centred_word w ∙ omega arith in
-    let low : ℤ = centred (word_at 0 bytes) in
-    let high : ℤ = centred (word_at 8 bytes) in
-    let a = checked (is_input_range low high) (Some (low, high)) range e in
-    let b = and_parts (int_le (negsuc 32767) low) (int_le low high && int_le high (pos 65535)) a.0 in
-    let d = and_parts (int_le low high) (int_le high (pos 65535)) b.1 in
+range_taken lower bytes range fits len e =
+    let back : (w : ℕ) → w < 2 ^ 64 → word_of (centred w) ≡ w = λ w small. lower.signed.centred_word w ∙ omega arith in
+    let low : ℤ = centred (word_in 0 bytes) in
+    let high : ℤ = centred (word_in 8 bytes) in
+    let a = checked (is_input_range low high) (Ok (low, high)) range e in
     let low_back : word_bytes (word_of low) ≡ take 8 bytes =
-    ap word_bytes (back (word_at 0 bytes) (word_fits (take 8 bytes) (IsBytes-take 8 bytes fits))) ∙ bytes_again (take 8 bytes) (omega (arith, length-take 8 bytes)) (IsBytes-take 8 bytes fits) in
+    ap word_bytes (back (word_in 0 bytes) (word_fits (take 8 bytes) (IsBytes-take 8 bytes fits))) ∙ bytes_again (take 8 bytes) (omega (arith, length-take 8 bytes)) (IsBytes-take 8 bytes fits) in
     let behind : IsBytes (take 8 (drop 8 bytes)) = IsBytes-take 8 (drop 8 bytes) (IsBytes-drop 8 bytes fits) in
     let high_back : word_bytes (word_of high) ≡ take 8 (drop 8 bytes) =
-    ap word_bytes (back (word_at 8 bytes) (word_fits (take 8 (drop 8 bytes)) behind)) ∙ bytes_again (take 8 (drop 8 bytes)) (omega (arith, length-take 8 (drop 8 bytes), length-drop 8 bytes)) behind in
+    ap word_bytes (back (word_in 8 bytes) (word_fits (take 8 (drop 8 bytes)) behind)) ∙ bytes_again (take 8 (drop 8 bytes)) (omega (arith, length-take 8 (drop 8 bytes), length-drop 8 bytes)) behind in
     let both : range_bytes (low, high) ≡ bytes = rw (low_back, high_back) (sym (take-add 8 8 bytes) ∙ take_all 16 bytes (omega arith)) in
-    let limits : IsRange (low, high) = record { low = record { le = subst T (sym b.0) tt }; rising = record { le = subst T (sym d.0) tt }; high = record { le = subst T (sym d.1) tt } } in
+    let limits : IsRange (low, high) = (lower.ranges.test low high).0 a.0 in
     subst (λ (r : ℤ × ℤ). (range_bytes r ≡ bytes) × IsRange r) (some_is (low, high) range a.1) (both, limits)
 
 -- what the first pieces of the bytes spell
@@ -80,14 +77,14 @@ spell_more spelling Fits size n bytes value values first fits others =
     let whole : take (suc n * size) bytes ≡ take size bytes ++ take (n * size) (drop size bytes) = ap (λ (k : ℕ). take k bytes) (omega arith) ∙ take-add size (n * size) bytes in
     record { spelled = flat_map-cons spelling value values ∙ rw (first, others.spelled) (sym whole); number = ap suc others.number; fit = (fits, others.fit) }
 
-ranges_taken : SignedLaws → (n : ℕ) (bytes : List ℕ) (ranges : List (ℤ × ℤ)) → IsBytes bytes → n * 16 ≤ length bytes → ranges_of (first_chunks 16 n bytes) ≡ Some ranges → Spell range_bytes IsRange n (take (n * 16) bytes) ranges
+ranges_taken : LowerLaws → (n : ℕ) (bytes : List ℕ) (ranges : List (ℤ × ℤ)) → IsBytes bytes → n * 16 ≤ length bytes → ranges_of (first_chunks 16 n bytes) ≡ Ok ranges → Spell range_bytes IsRange n (take (n * 16) bytes) ranges
 unfolding ranges_of
-ranges_taken signed zero bytes ranges fits enough e = subst (Spell range_bytes IsRange 0 []) (some_is [] ranges e) (spell_none range_bytes IsRange)
-ranges_taken signed (suc n) bytes ranges fits enough e =
-    let a = bind_some (range_of (take 16 bytes)) (λ range. ranges_of (first_chunks 16 n (drop 16 bytes)) >>= λ others. Some (range ∷ others)) ranges e in
-    let b = bind_some (ranges_of (first_chunks 16 n (drop 16 bytes))) (λ others. Some (a.0 ∷ others)) ranges a.2 in
-    let first = range_taken signed (take 16 bytes) a.0 (IsBytes-take 16 bytes fits) (omega (arith, length-take 16 bytes)) a.1 in
-    let others = ranges_taken signed n (drop 16 bytes) b.0 (IsBytes-drop 16 bytes fits) (omega (arith, length-drop 16 bytes)) b.1 in
+ranges_taken lower zero bytes ranges fits enough e = subst (Spell range_bytes IsRange 0 []) (some_is [] ranges e) (spell_none range_bytes IsRange)
+ranges_taken lower (suc n) bytes ranges fits enough e =
+    let a = value_of_step (range_of (take 16 bytes)) (λ range. ranges_of (first_chunks 16 n (drop 16 bytes)) >>= λ others. Ok (range ∷ others)) ranges e in
+    let b = value_of_step (ranges_of (first_chunks 16 n (drop 16 bytes))) (λ others. Ok (a.0 ∷ others)) ranges a.2 in
+    let first = range_taken lower (take 16 bytes) a.0 (IsBytes-take 16 bytes fits) (omega (arith, length-take 16 bytes)) a.1 in
+    let others = ranges_taken lower n (drop 16 bytes) b.0 (IsBytes-drop 16 bytes fits) (omega (arith, length-drop 16 bytes)) b.1 in
     subst (Spell range_bytes IsRange (suc n) (take (suc n * 16) bytes)) (some_is (a.0 ∷ b.0) ranges b.2) (spell_more range_bytes IsRange 16 n bytes a.0 b.0 first.0 first.1 others)
 
 -- ---- words
@@ -97,7 +94,7 @@ words_taken zero bytes fits enough = spell_none word_bytes (λ word. word < 2 ^ 
 words_taken (suc n) bytes fits enough =
     let front : IsBytes (take 8 bytes) = IsBytes-take 8 bytes fits in
     let others = words_taken n (drop 8 bytes) (IsBytes-drop 8 bytes fits) (omega (arith, length-drop 8 bytes)) in
-    spell_more word_bytes (λ word. word < 2 ^ 64) 8 n bytes (word_in (take 8 bytes)) (words_of n (drop 8 bytes)) (bytes_again (take 8 bytes) (omega (arith, length-take 8 bytes)) front) (word_fits (take 8 bytes) front) others
+    spell_more word_bytes (λ word. word < 2 ^ 64) 8 n bytes (word_of_bytes (take 8 bytes)) (words_of n (drop 8 bytes)) (bytes_again (take 8 bytes) (omega (arith, length-take 8 bytes)) front) (word_fits (take 8 bytes) front) others
 
 -- one ciphertext
 ciphertext_taken : (dim : ℕ) (bytes : List ℕ) → IsBytes bytes → length bytes ≡ 8 * (dim + 1) → (words_bytes (words_of (dim + 1) bytes) ≡ bytes) × IsCiphertext dim (words_of (dim + 1) bytes)
@@ -118,32 +115,32 @@ ciphertexts_taken dim (suc n) bytes fits enough =
 
 record Counted (bytes : List ℕ) (counts : ℕ × ℕ × ℕ) : Type 0 where
   pub first : take 8 bytes ≡ magic
-  pub dim : word_at 40 bytes ≡ counts.0
+  pub dim : word_in 40 bytes ≡ counts.0
   pub dim_least : 1 ≤ counts.0
   pub dim_most : counts.0 ≤ 24576
-  pub width : word_at 48 bytes ≡ counts.1
+  pub width : word_in 48 bytes ≡ counts.1
   pub width_least : 1 ≤ counts.1
   pub width_most : counts.1 ≤ 16
-  pub number : word_at 56 bytes ≡ counts.2
+  pub number : word_in 56 bytes ≡ counts.2
   pub number_most : counts.2 ≤ 64
   pub len : length bytes ≡ 96 + 16 * counts.2 + counts.2 * (8 * (counts.0 + 1))
 
-counted : (bytes : List ℕ) (counts : ℕ × ℕ × ℕ) → counts_of bytes ≡ Some counts → Counted bytes counts
+counted : (bytes : List ℕ) (counts : ℕ × ℕ × ℕ) → counts_of bytes ≡ Ok counts → Counted bytes counts
 unfolding counts_of
 counted bytes counts e =
-    let after_number : ℕ → ℕ → ℕ → Option (ℕ × ℕ × ℕ) = λ dim width number. check (length bytes == 96 + 16 * number + number * (8 * (dim + 1))) >>= λ _. Some (dim, width, number) in
-    let after_width : ℕ → ℕ → Option (ℕ × ℕ × ℕ) = λ dim width. number_within 0 64 (word_at 56 bytes) >>= after_number dim width in
-    let after_dim : ℕ → Option (ℕ × ℕ × ℕ) = λ dim. number_within 1 16 (word_at 48 bytes) >>= after_width dim in
-    let after_magic : Option (ℕ × ℕ × ℕ) = number_within 1 24576 (word_at 40 bytes) >>= after_dim in
+    let after_number : ℕ → ℕ → ℕ → Read (ℕ × ℕ × ℕ) = λ dim width number. check (length bytes == 96 + 16 * number + number * (8 * (dim + 1))) >>= λ _. Ok (dim, width, number) in
+    let after_width : ℕ → ℕ → Read (ℕ × ℕ × ℕ) = λ dim width. number_within 0 64 (word_in 56 bytes) >>= after_number dim width in
+    let after_dim : ℕ → Read (ℕ × ℕ × ℕ) = λ dim. number_within 1 16 (word_in 48 bytes) >>= after_width dim in
+    let after_magic : Read (ℕ × ℕ × ℕ) = number_within 1 24576 (word_in 40 bytes) >>= after_dim in
     let long = checked (nat_le 96 (length bytes)) (check (bytes_eq (take 8 bytes) magic) >>= λ _. after_magic) counts e in
     let first = checked (bytes_eq (take 8 bytes) magic) after_magic counts long.1 in
-    let dim = bind_some (number_within 1 24576 (word_at 40 bytes)) after_dim counts first.1 in
-    let width = bind_some (number_within 1 16 (word_at 48 bytes)) (after_width dim.0) counts dim.2 in
-    let number = bind_some (number_within 0 64 (word_at 56 bytes)) (after_number dim.0 width.0) counts width.2 in
-    let exact = checked (length bytes == 96 + 16 * number.0 + number.0 * (8 * (dim.0 + 1))) (Some (dim.0, width.0, number.0)) counts number.2 in
-    let dim_in = number_taken 1 24576 (word_at 40 bytes) dim.0 dim.1 in
-    let width_in = number_taken 1 16 (word_at 48 bytes) width.0 width.1 in
-    let number_in = number_taken 0 64 (word_at 56 bytes) number.0 number.1 in
+    let dim = value_of_step (number_within 1 24576 (word_in 40 bytes)) after_dim counts first.1 in
+    let width = value_of_step (number_within 1 16 (word_in 48 bytes)) (after_width dim.0) counts dim.2 in
+    let number = value_of_step (number_within 0 64 (word_in 56 bytes)) (after_number dim.0 width.0) counts width.2 in
+    let exact = checked (length bytes == 96 + 16 * number.0 + number.0 * (8 * (dim.0 + 1))) (Ok (dim.0, width.0, number.0)) counts number.2 in
+    let dim_in = number_taken 1 24576 (word_in 40 bytes) dim.0 dim.1 in
+    let width_in = number_taken 1 16 (word_in 48 bytes) width.0 width.1 in
+    let number_in = number_taken 0 64 (word_in 56 bytes) number.0 number.1 in
     subst (Counted bytes) {x = (dim.0, width.0, number.0)} (some_is (dim.0, width.0, number.0) counts exact.1) (record {
       first = (bytes_eq-Decides (take 8 bytes) magic).0 first.0;
       dim = dim_in.0;
@@ -159,10 +156,10 @@ counted bytes counts e =
 
 -- ---- the whole file
 
-word_cut : (place : ℕ) (bytes : List ℕ) (word : ℕ) → IsBytes bytes → place + 8 ≤ length bytes → word_at place bytes ≡ word → drop place bytes ≡ word_bytes word ++ drop (place + 8) bytes
+word_cut : (place : ℕ) (bytes : List ℕ) (word : ℕ) → IsBytes bytes → place + 8 ≤ length bytes → word_in place bytes ≡ word → drop place bytes ≡ word_bytes word ++ drop (place + 8) bytes
 word_cut place bytes word fits long e =
     let piece : List ℕ = take 8 (drop place bytes) in
-    let back : word_bytes (word_in piece) ≡ piece = bytes_again piece (omega (arith, length-take 8 (drop place bytes), length-drop place bytes)) (IsBytes-take 8 (drop place bytes) (IsBytes-drop place bytes fits)) in
+    let back : word_bytes (word_of_bytes piece) ≡ piece = bytes_again piece (omega (arith, length-take 8 (drop place bytes), length-drop place bytes)) (IsBytes-take 8 (drop place bytes) (IsBytes-drop place bytes fits)) in
     cut place 8 bytes ∙ ap (λ (front : List ℕ). front ++ drop (place + 8) bytes) (sym back ∙ ap word_bytes e)
 
 -- one piece more of the bytes is known
@@ -199,13 +196,13 @@ seal_cut bytes body long parts sealed =
     parts ∙ ap (λ (x : List ℕ). body ++ x) (seal_is ∙ ap sha256 body_is)
 
 -- the file that the parts of reading make
-made_taken : SignedLaws → (bytes : List ℕ) (counts : ℕ × ℕ × ℕ) (ranges : List (ℤ × ℤ)) → IsBytes bytes → Counted bytes counts → is_sealed bytes ≡ true → ranges_of (first_chunks 16 counts.2 (drop 64 bytes)) ≡ Some ranges
+made_taken : LowerLaws → (bytes : List ℕ) (counts : ℕ × ℕ × ℕ) (ranges : List (ℤ × ℤ)) → IsBytes bytes → Counted bytes counts → is_sealed bytes ≡ true → ranges_of (first_chunks 16 counts.2 (drop 64 bytes)) ≡ Ok ranges
     → let file : CiphertextFile = record { digest = take 32 (drop 8 bytes); dim = counts.0; width = counts.1; ranges = ranges; ciphertexts = ciphertexts_of counts.0 counts.2 (drop (64 + 16 * counts.2) bytes) } in IsCiphertextFile file × (bytes ≡ ciphertext_bytes file)
-made_taken signed bytes counts ranges fits c sealed found =
+made_taken lower bytes counts ranges fits c sealed found =
     let digest : List ℕ = take 32 (drop 8 bytes) in
     let behind : List ℕ = drop (64 + 16 * counts.2) bytes in
     let long : 96 ≤ length bytes = omega (arith, c.len) in
-    let ranges_are = ranges_taken signed counts.2 (drop 64 bytes) ranges (IsBytes-drop 64 bytes fits) (omega (arith, c.len, length-drop 64 bytes)) found in
+    let ranges_are = ranges_taken lower counts.2 (drop 64 bytes) ranges (IsBytes-drop 64 bytes fits) (omega (arith, c.len, length-drop 64 bytes)) found in
     let ciphertexts_are = ciphertexts_taken counts.0 counts.2 behind (IsBytes-drop (64 + 16 * counts.2) bytes fits) (omega (arith, c.len, length-drop (64 + 16 * counts.2) bytes)) in
     let ciphertexts : List (List ℕ) = ciphertexts_of counts.0 counts.2 behind in
     let parts = body_cut bytes counts (flat_map range_bytes ranges) (flat_map words_bytes ciphertexts) fits c ranges_are.spelled ciphertexts_are.spelled in
@@ -231,15 +228,15 @@ made_taken signed bytes counts ranges fits c sealed found =
       seal_cut bytes (ciphertext_file_body file) (omega arith) named sealed,
     )
 
-pub file_taken : SignedLaws → (bytes : List ℕ) (file : CiphertextFile) → IsBytes bytes → ciphertext_file_of bytes ≡ Some file → IsCiphertextFile file × (bytes ≡ ciphertext_bytes file)
+pub file_taken : LowerLaws → (bytes : List ℕ) (file : CiphertextFile) → IsBytes bytes → ciphertext_file_of bytes ≡ Ok file → IsCiphertextFile file × (bytes ≡ ciphertext_bytes file)
 unfolding ciphertext_file_of
-file_taken signed bytes file fits e =
+file_taken lower bytes file fits e =
     let made : ℕ × ℕ × ℕ → List (ℤ × ℤ) → CiphertextFile = λ counts ranges. record { digest = take 32 (drop 8 bytes); dim = counts.0; width = counts.1; ranges = ranges; ciphertexts = ciphertexts_of counts.0 counts.2 (drop (64 + 16 * counts.2) bytes) } in
-    let after_seal : ℕ × ℕ × ℕ → Option CiphertextFile = λ counts. ranges_of (first_chunks 16 counts.2 (drop 64 bytes)) >>= λ ranges. Some (made counts ranges) in
-    let counts = bind_some (counts_of bytes) (λ counts. check (is_sealed bytes) >>= λ _. after_seal counts) file e in
+    let after_seal : ℕ × ℕ × ℕ → Read CiphertextFile = λ counts. ranges_of (first_chunks 16 counts.2 (drop 64 bytes)) >>= λ ranges. Ok (made counts ranges) in
+    let counts = value_of_step (counts_of bytes) (λ counts. check (is_sealed bytes) >>= λ _. after_seal counts) file e in
     let sealed = checked (is_sealed bytes) (after_seal counts.0) file counts.2 in
-    let found = bind_some (ranges_of (first_chunks 16 counts.0.2 (drop 64 bytes))) (λ ranges. Some (made counts.0 ranges)) file sealed.1 in
-    subst (λ (f : CiphertextFile). IsCiphertextFile f × (bytes ≡ ciphertext_bytes f)) {x = made counts.0 found.0} (some_is (made counts.0 found.0) file found.2) (made_taken signed bytes counts.0 found.0 fits (counted bytes counts.0 counts.1) sealed.0 found.1)
+    let found = value_of_step (ranges_of (first_chunks 16 counts.0.2 (drop 64 bytes))) (λ ranges. Ok (made counts.0 ranges)) file sealed.1 in
+    subst (λ (f : CiphertextFile). IsCiphertextFile f × (bytes ≡ ciphertext_bytes f)) {x = made counts.0 found.0} (some_is (made counts.0 found.0) file found.2) (made_taken lower bytes counts.0 found.0 fits (counted bytes counts.0 counts.1) sealed.0 found.1)
 
 -- ---- the number of words of each ciphertext, whatever the bytes are
 
@@ -247,20 +244,20 @@ chunks_number : (size n : ℕ) (bytes : List ℕ) → length (first_chunks size 
 chunks_number size zero bytes = refl
 chunks_number size (suc n) bytes = ap suc (chunks_number size n (drop size bytes))
 
-pub rows_long : (bytes : List ℕ) (file : CiphertextFile) → ciphertext_file_of bytes ≡ Some file → All (λ words. length words ≡ file.dim + 1) file.ciphertexts
+pub rows_long : (bytes : List ℕ) (file : CiphertextFile) → ciphertext_file_of bytes ≡ Ok file → All (λ words. length words ≡ file.dim + 1) file.ciphertexts
 unfolding ciphertext_file_of
 rows_long bytes file e =
     let made : ℕ × ℕ × ℕ → List (ℤ × ℤ) → CiphertextFile = λ counts ranges. record { digest = take 32 (drop 8 bytes); dim = counts.0; width = counts.1; ranges = ranges; ciphertexts = ciphertexts_of counts.0 counts.2 (drop (64 + 16 * counts.2) bytes) } in
-    let after_seal : ℕ × ℕ × ℕ → Option CiphertextFile = λ counts. ranges_of (first_chunks 16 counts.2 (drop 64 bytes)) >>= λ ranges. Some (made counts ranges) in
-    let counts = bind_some (counts_of bytes) (λ counts. check (is_sealed bytes) >>= λ _. after_seal counts) file e in
+    let after_seal : ℕ × ℕ × ℕ → Read CiphertextFile = λ counts. ranges_of (first_chunks 16 counts.2 (drop 64 bytes)) >>= λ ranges. Ok (made counts ranges) in
+    let counts = value_of_step (counts_of bytes) (λ counts. check (is_sealed bytes) >>= λ _. after_seal counts) file e in
     let sealed = checked (is_sealed bytes) (after_seal counts.0) file counts.2 in
-    let found = bind_some (ranges_of (first_chunks 16 counts.0.2 (drop 64 bytes))) (λ ranges. Some (made counts.0 ranges)) file sealed.1 in
+    let found = value_of_step (ranges_of (first_chunks 16 counts.0.2 (drop 64 bytes))) (λ ranges. Ok (made counts.0 ranges)) file sealed.1 in
     let dim : ℕ = counts.0.0 in
     subst (λ (f : CiphertextFile). All (λ words. length words ≡ f.dim + 1) f.ciphertexts) {x = made counts.0 found.0} (some_is (made counts.0 found.0) file found.2)
     (All-map (λ words. length words ≡ dim + 1) (words_of (dim + 1)) (first_chunks (8 * (dim + 1)) counts.0.2 (drop (64 + 16 * counts.0.2) bytes))
-    (λ k d lt. length-map (first_chunks 8 (dim + 1) _) word_in ∙ chunks_number 8 (dim + 1) _))
+    (λ k d lt. length-map (first_chunks 8 (dim + 1) _) word_of_bytes ∙ chunks_number 8 (dim + 1) _))
 
 -- a function that answers what reading gives answers a file that can be spelled
-pub is_valid : SignedLaws → (bytes : List ℕ) (answer : Result (CipherHead × Vec (List ℕ)) FileRefusal) → IsBytes bytes → Gives (λ read. file_of read.0 read.1.items) answer (ciphertext_file_of bytes) → IfOk answer (λ read. IsCiphertextFile (file_of read.0 read.1.items))
-is_valid signed bytes (Ok read) fits given = (file_taken signed bytes (file_of read.0 read.1.items) fits given).0
-is_valid signed bytes (Err refusal) fits given = tt
+pub is_valid : CiphertextFileLaws → (bytes : List ℕ) (answer : Result (CipherHead × Vec (List ℕ)) (Refusal FileFault)) → All (λ byte. byte < 256) bytes → Gives (λ read. file_of read.0 read.1.items) answer (ciphertext_file_of bytes) → IfOk answer (λ read. IsCiphertextFile (file_of read.0 read.1.items))
+is_valid laws bytes (Ok read) fits given = (laws.read bytes (file_of read.0 read.1.items) fits given).0
+is_valid laws bytes (Err refusal) fits given = tt

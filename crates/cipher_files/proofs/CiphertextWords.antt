@@ -3,8 +3,15 @@ use Rattle.std.proofs.Common.{◌≡◌, ℕ, ◌+◌, ◌^◌, ◌<◌, List, l
 use Rattle.std.proofs.lemmas.Bool.{cases_lt}
 use Rattle.std.proofs.lemmas.List.{get_or-drop, get_or-take, get_or_past, get_or_default, length-take}
 use Rattle.std.proofs.lemmas.Nat.{le_bytes_8, from_le_bytes-to_le_bytes_8}
+use Rattle.word_ring.specs.Signed.{SignedLaws}
+use Rattle.circuit_file.specs.Laws.{InputRangeLaws}
 use Rattle.cipher_files.specs.CiphertextFile.{word_bytes}
-use Rattle.cipher_files.specs.CiphertextReading.{word_in}
+use Rattle.cipher_files.specs.CiphertextReading.{word_of_bytes}
+
+-- what the crates below promise of signed numbers and of ranges
+pub record LowerLaws : Type 0 where
+  pub signed : SignedLaws
+  pub ranges : InputRangeLaws
 
 -- at each place stands a byte
 abbrev pub IsBytes : List ℕ → Type 0
@@ -34,16 +41,16 @@ pub length-word_bytes : (word : ℕ) → length (word_bytes word) ≡ 8
 unfolding word_bytes
 length-word_bytes word = refl
 
-pub word_again : (word : ℕ) → word < 2 ^ 64 → word_in (word_bytes word) ≡ word
-unfolding word_bytes word_in
+pub word_again : (word : ℕ) → word < 2 ^ 64 → word_of_bytes (word_bytes word) ≡ word
+unfolding word_bytes word_of_bytes
 word_again word lt = from_le_bytes-to_le_bytes_8 word lt
 
-pub bytes_again : (bytes : List ℕ) → length bytes ≡ 8 → IsBytes bytes → word_bytes (word_in bytes) ≡ bytes
-unfolding word_bytes word_in
+pub bytes_again : (bytes : List ℕ) → length bytes ≡ 8 → IsBytes bytes → word_bytes (word_of_bytes bytes) ≡ bytes
+unfolding word_bytes word_of_bytes
 bytes_again bytes len fits = le_bytes_8 bytes _ len fits refl
 
-pub word_fits : (bytes : List ℕ) → IsBytes bytes → word_in bytes < 2 ^ 64
-unfolding word_in
+pub word_fits : (bytes : List ℕ) → IsBytes bytes → word_of_bytes bytes < 2 ^ 64
+unfolding word_of_bytes
 word_fits bytes fits = omega (arith, fits 0, fits 1, fits 2, fits 3, fits 4, fits 5, fits 6, fits 7)
 
 -- a ciphertext of the dimension, with its words

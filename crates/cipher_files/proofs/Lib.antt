@@ -1,4 +1,3 @@
-pub mod ReadingLemmas
 pub mod CiphertextWords
 pub mod CiphertextPieces
 pub mod CiphertextLoop

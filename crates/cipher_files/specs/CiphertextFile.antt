@@ -4,7 +4,9 @@ use Rattle.std.specs.List.{flat_map, All}
 use Rattle.std.specs.Int.{w64, to_le_bytes}
 use Rattle.sha2.specs.Sha256.{sha256}
 use Rattle.word_ring.specs.Signed.{word_of}
+use Rattle.circuit_file.specs.Limits.{most_dimension, most_width}
 use Rattle.circuit_file.specs.Ranges.{IsInputRange}
+use Rattle.cipher_files.specs.Limits.{most_ciphertexts}
 use Rattle.cipher_files.specs.declared.head.CipherHead.{CipherHead}
 
 -- the digest of the parameters, the dimension, the width, and for each ciphertext its range and its words
@@ -48,10 +50,10 @@ IsRange range = IsInputRange range.0 range.1
 pub record HasFileLimits (file : CiphertextFile) : Type 0 where
   pub digest : length file.digest ≡ 32
   pub dim_least : 1 ≤ file.dim
-  pub dim_most : file.dim ≤ 24576
+  pub dim_most : file.dim ≤ most_dimension
   pub width_least : 1 ≤ file.width
-  pub width_most : file.width ≤ 16
-  pub number_most : length file.ranges ≤ 64
+  pub width_most : file.width ≤ most_width
+  pub number_most : length file.ranges ≤ most_ciphertexts
   pub ranges : All IsRange file.ranges
   pub number : length file.ciphertexts ≡ length file.ranges
   pub ciphertexts : All (λ words. length words ≡ file.dim + 1) file.ciphertexts

@@ -5,8 +5,8 @@
 //!
 //! - the magic `FHECCIP1`, 8 bytes;
 //! - the digest of the parameters, 32 bytes;
-//! - the dimension D (1 to 24,576), the width P (1 to 16) and the number m of ciphertexts (0 to 64);
-//! - m ranges, each its lowest and its highest number, from -2^15 to 2^16 - 1;
+//! - the dimension D (from 1 to the greatest dimension), the width P (from 1) and the number m of ciphertexts;
+//! - m ranges, each its lowest and its highest number, within the limits of inputs;
 //! - m ciphertexts, each of D mask words and a body;
 //! - the seal: the SHA-256 of all bytes before it, 32 bytes.
 #![tactic(auto)]
@@ -14,14 +14,15 @@
 mod digest;
 mod fault;
 mod head;
-mod laws;
+pub mod laws;
+mod limits;
 mod printing;
 mod reading;
 
 pub use digest::params_digest;
 pub use fault::{FileFault, FileRefusal};
 pub use head::CipherHead;
-pub use laws::ciphertext_file_laws;
+pub use limits::FILE_LIMIT;
 pub use printing::print_cipher;
 pub use reading::read_cipher;
 

@@ -1,11 +1,14 @@
 //! Writing ciphertexts as the bytes of a file.
 
-ghost use Rattle.std.specs.Prelude.{◌≡◌, ◌<◌, ◌^◌, ◌++◌, IfOk, OnOk};
+ghost use Rattle.std.specs.Prelude.{◌≡◌, ◌<◌, ◌≤◌, ◌^◌, ◌++◌, length, IfOk, OnOk};
 ghost use Rattle.std.specs.List.{All, flat_map};
+ghost use Rattle.cipher_files.specs.Limits.{file_limit};
 ghost use Rattle.cipher_files.specs.CiphertextFile.{HasFileLimits, IsCiphertextFile, file_of, word_bytes, range_bytes, words_bytes, ciphertext_file_body, ciphertext_bytes};
 
 use crate::MAGIC;
 use crate::head::CipherHead;
+use crate::laws::laws;
+use crate::limits::file_size;
 use lwe_core::{Big, Lwe};
 use sha2::{Digest, Sha256};
 use std::alloc::{AllocError, Global};
@@ -85,9 +88,10 @@ pub fn print_cipher(
     ensures spelled { IfOk result (λ out. out.items ≡ ciphertext_bytes (file_of head.now list.now)) }
     // Its bytes and words fit their types, so the file is one that is read again.
     ensures valid { OnOk result (IsCiphertextFile (file_of head.now list.now)) }
+    ensures size { IfOk result (λ out. length out.items ≤ file_limit) }
 {
-    let size = 96 + 16 * list.len() + list.len() * (8 * (head.dim as usize + 1));
-    let mut out = Vec::with_capacity(alloc, size)?;
+    laws();
+    let mut out = Vec::with_capacity(alloc, file_size(head.dim, list.len()))?;
     put_body(&mut out, head, list)?;
     let seal = Sha256::digest(out.as_slice());
     out.extend_from_slice(&seal)?;

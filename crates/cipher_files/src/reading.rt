@@ -1,19 +1,27 @@
 //! Reading the bytes of a file, check by check.
 
-ghost use Rattle.std.specs.Prelude.{◌≡◌, ◌+◌, ◌*◌, ◌/◌, ◌<◌, ◌≤◌, ◌^◌, length, take, drop, IfOk};
+ghost use Rattle.std.specs.Prelude.{◌≡◌, ◌+◌, ◌*◌, ◌/◌, ◌<◌, ◌≤◌, ◌^◌, length, take, drop, IsTrue, IfOk, OnOk};
 ghost use Rattle.std.specs.Simd.{first_chunks};
+ghost use Rattle.circuit_file.specs.Limits.{most_dimension};
+ghost use Rattle.cipher_files.specs.Limits.{most_ciphertexts, range_size, ciphertext_size, seal_size, file_size};
 ghost use Rattle.cipher_files.specs.CiphertextFile.{IsCiphertextFile, file_of};
-ghost use Rattle.cipher_files.specs.CiphertextReading.{Gives, word_at, number_within, counts_of, is_sealed, range_of, ranges_of, words_of, ciphertexts_of, ciphertext_file_of};
+ghost use Rattle.refusals.specs.Reading.{Gives};
+ghost use Rattle.cipher_files.specs.CiphertextReading.{check, word_in, number_within, counts_of, is_sealed, range_of, ranges_of, words_of, ciphertexts_of, ciphertext_file_of};
 
 use crate::MAGIC;
 use crate::fault::{FileFault, FileRefusal};
 use crate::head::CipherHead;
-use circuit_file::is_input_range;
+use crate::laws::laws;
+use crate::limits::{
+    HEAD_SIZE, MOST_CIPHERTEXTS, RANGE_SIZE, SEAL_SIZE, ciphertext_size, file_size,
+};
+use circuit_file::{MOST_DIMENSION, MOST_WIDTH, is_input_range};
 use lists::List;
 use lwe_core::{Big, Lwe};
+use refusals::unless;
 use sha2::{Digest, Sha256};
 use std::alloc::{AllocError, Global};
-use word_ring::{centred, signed_laws};
+use word_ring::centred;
 
 /// The numbers that a file says of itself.
 #[derive(Clone, Copy)]
@@ -23,10 +31,18 @@ struct Counts {
     number: u32,
 }
 
-#[tactic(auto, unfolding(crate::specs::CiphertextReading::word_in))]
-fn word_at(bytes: &[u8], place: usize) -> u64
+/// Goes on only where the test holds.
+fn check(test: bool) -> Result<(), FileRefusal>
+    ensures exact { Gives (λ x. x) result (check test) }
+    ensures held { OnOk result (IsTrue test) }
+{
+    unless(test, FileFault::Later)
+}
+
+#[tactic(auto, unfolding(crate::specs::CiphertextReading::word_of_bytes))]
+fn word_in(bytes: &[u8], place: usize) -> u64
     requires { place + 8 ≤ length bytes.now }
-    ensures { result ≡ word_at place bytes.now }
+    ensures { result ≡ word_in place bytes.now }
 {
     let word = &bytes[place..place + 8];
     u64::from_le_bytes([
@@ -40,51 +56,43 @@ fn number_within(least: u64, most: u64, number: u64) -> Result<u32, FileRefusal>
     ensures read { Gives (λ number. number) result (number_within least most number) }
     ensures limit { IfOk result (λ number. number ≤ most) }
 {
-    if number < least || most < number {
-        return Err(FileRefusal::Fault(FileFault::Later));
-    }
+    check(least <= number && number <= most)?;
     Ok(number as u32)
 }
 
 #[tactic(auto, unfolding(crate::specs::CiphertextReading::counts_of))]
 fn counts_of(bytes: &[u8]) -> Result<Counts, FileRefusal>
     ensures read { Gives (λ counts. (counts.dim, counts.width, counts.number)) result (counts_of bytes.now) }
-    ensures dim { IfOk result (λ counts. counts.dim ≤ 24576) }
-    ensures number { IfOk result (λ counts. counts.number ≤ 64) }
-    ensures len { IfOk result (λ counts. length bytes.now ≡ 96 + 16 * counts.number + counts.number * (8 * (counts.dim + 1))) }
+    ensures dim { IfOk result (λ counts. counts.dim ≤ most_dimension) }
+    ensures number { IfOk result (λ counts. counts.number ≤ most_ciphertexts) }
+    ensures len { IfOk result (λ counts. length bytes.now ≡ file_size counts.dim counts.number) }
 {
-    if bytes.len() < 96 || &bytes[..8] != MAGIC.as_slice() {
-        return Err(FileRefusal::Fault(FileFault::Later));
-    }
-    let dim = number_within(1, 24576, word_at(bytes, 40))?;
-    let width = number_within(1, 16, word_at(bytes, 48))?;
-    let number = number_within(0, 64, word_at(bytes, 56))?;
-    let many = number as usize;
-    if bytes.len() != 96 + 16 * many + many * (8 * (dim as usize + 1)) {
-        return Err(FileRefusal::Fault(FileFault::Later));
-    }
+    check(bytes.len() >= HEAD_SIZE + SEAL_SIZE)?;
+    check(&bytes[..8] == MAGIC.as_slice())?;
+    let dim = number_within(1, MOST_DIMENSION, word_in(bytes, 40))?;
+    let width = number_within(1, MOST_WIDTH, word_in(bytes, 48))?;
+    let number = number_within(0, MOST_CIPHERTEXTS, word_in(bytes, 56))?;
+    check(bytes.len() == file_size(dim, number as usize))?;
     Ok(Counts { dim, width, number })
 }
 
 #[tactic(auto, unfolding(crate::specs::CiphertextReading::is_sealed))]
 fn is_sealed(bytes: &[u8]) -> bool
-    requires { 32 ≤ length bytes.now }
+    requires { seal_size ≤ length bytes.now }
     ensures { result ≡ is_sealed bytes.now }
 {
-    let (body, seal) = bytes.split_at(bytes.len() - 32);
+    let (body, seal) = bytes.split_at(bytes.len() - SEAL_SIZE);
     seal == Sha256::digest(body).as_slice()
 }
 
 #[tactic(auto, unfolding(crate::specs::CiphertextReading::range_of))]
 fn range_of(bytes: &[u8]) -> Result<(i64, i64), FileRefusal>
-    requires { 16 ≤ length bytes.now }
+    requires { range_size ≤ length bytes.now }
     ensures { Gives (λ range. range) result (range_of bytes.now) }
 {
-    let low = centred(word_at(bytes, 0));
-    let high = centred(word_at(bytes, 8));
-    if !is_input_range(low, high) {
-        return Err(FileRefusal::Fault(FileFault::Later));
-    }
+    let low = centred(word_in(bytes, 0));
+    let high = centred(word_in(bytes, 8));
+    check(is_input_range(low, high))?;
     Ok((low, high))
 }
 
@@ -98,20 +106,20 @@ fn digest_of(bytes: &[u8]) -> [u8; 32]
 }
 
 fn ranges_of(alloc: Global, number: usize, bytes: &[u8]) -> Result<Vec<(i64, i64)>, FileRefusal>
-    requires { 16 * number ≤ length bytes.now }
-    ensures { Gives (λ ranges. ranges.items) result (ranges_of (first_chunks 16 number bytes.now)) }
+    requires { range_size * number ≤ length bytes.now }
+    ensures { Gives (λ ranges. ranges.items) result (ranges_of (first_chunks range_size number bytes.now)) }
 {
     let mut ranges = Vec::with_capacity(alloc, number)?;
     let mut rest = bytes;
     for _ in 0..number {
-        let (piece, after) = rest.split_at(16);
+        let (piece, after) = rest.split_at(RANGE_SIZE);
         ranges.push(range_of(piece)?)?;
         rest = after;
     }
     Ok(ranges)
 }
 
-#[tactic(auto, unfolding(crate::specs::CiphertextReading::word_in))]
+#[tactic(auto, unfolding(crate::specs::CiphertextReading::word_of_bytes))]
 fn words_of(alloc: Global, bytes: &[u8]) -> Result<Vec<u64>, AllocError>
     ensures { IfOk result (λ words. words.items ≡ words_of (length bytes.now / 8) bytes.now) }
 {
@@ -125,15 +133,15 @@ fn words_of(alloc: Global, bytes: &[u8]) -> Result<Vec<u64>, AllocError>
 
 fn ciphertexts_of(
     alloc: Global,
-    dim: usize,
+    dim: u32,
     number: usize,
     bytes: &[u8],
 ) -> Result<Vec<Lwe<Big>>, AllocError>
-    requires dim { dim ≤ 24576 }
-    requires len { number * (8 * (dim + 1)) ≤ length bytes.now }
+    requires dim { dim ≤ most_dimension }
+    requires len { number * ciphertext_size dim ≤ length bytes.now }
     ensures { IfOk result (λ list. list.items ≡ ciphertexts_of dim number bytes.now) }
 {
-    let size = 8 * (dim + 1);
+    let size = ciphertext_size(dim);
     let mut list = Vec::with_capacity(alloc, number)?;
     let mut rest = bytes;
     for _ in 0..number {
@@ -149,16 +157,14 @@ fn file_in(alloc: Global, bytes: &[u8]) -> Result<(CipherHead, Vec<Lwe<Big>>), F
     ensures { Gives (λ read. file_of read.0 read.1.items) result (ciphertext_file_of bytes.now) }
 {
     let counts = counts_of(bytes)?;
-    if !is_sealed(bytes) {
-        return Err(FileRefusal::Fault(FileFault::Later));
-    }
+    check(is_sealed(bytes))?;
     let number = counts.number as usize;
-    let ranges = ranges_of(alloc, number, &bytes[64..])?;
+    let ranges = ranges_of(alloc, number, &bytes[HEAD_SIZE..])?;
     let list = ciphertexts_of(
         alloc,
-        counts.dim as usize,
+        counts.dim,
         number,
-        &bytes[64 + 16 * number..],
+        &bytes[HEAD_SIZE + RANGE_SIZE * number..],
     )?;
     let head = CipherHead {
         digest: digest_of(bytes),
@@ -178,6 +184,6 @@ pub fn read_cipher(alloc: Global, bytes: &[u8]) -> Result<(CipherHead, Vec<Lwe<B
     // So it can be printed again.
     ensures valid { IfOk result (λ read. IsCiphertextFile (file_of read.0 read.1.items)) }
 {
-    signed_laws();
+    laws();
     file_in(alloc, bytes)
 }

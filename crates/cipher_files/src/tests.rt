@@ -53,7 +53,7 @@ struct Held<'a> {
 
 #[test]
 fn worked_files(rt: HostRuntime) -> Result<(), Fail> {
-    ciphertext_file_laws();
+    laws::laws();
     let two = [(0, 1), (0, 2)];
     let words = [
         [5, 7, 2_305_843_009_213_693_960],

@@ -1,4 +1,3 @@
-pub mod ReadingLemmas
 pub mod NumberLemmas
 pub mod NumberTexts
 pub mod Many
@@ -6,3 +5,4 @@ pub mod NodeLines
 pub mod ParameterLines
 pub mod ResultRules
 pub mod CircuitWhole
+pub mod TextLengths

@@ -1,5 +1,5 @@
 -- The lines before the nodes: what is read is spelled so, and what is spelled is read again.
-use Rattle.std.proofs.Common.{◌≡◌, ℕ, ◌*◌, ◌/◌, ◌≤◌, ◌<◌, ◌^◌, ◌-◌, List, ◌++◌, Option, Some, arith, ap, refl, ◌∙◌, append_assoc, mul_comm, mul-le-mul, le-div_iff_mul-le}
+use Rattle.std.proofs.Common.{◌≡◌, ℕ, ◌*◌, ◌/◌, ◌≤◌, ◌<◌, ◌^◌, ◌-◌, List, ◌++◌, Ok, arith, ap, refl, ◌∙◌, append_assoc, mul_comm, mul-le-mul, le-div_iff_mul-le}
 use Rattle.std.specs.Prelude.{codes}
 use Rattle.std.specs.Fmt.{decimal}
 use Rattle.std.proofs.Math.Nat.{pow-le-pow_right}
@@ -8,10 +8,11 @@ use Rattle.circuit_file.specs.declared.circuit.LweChoice.{LweChoice}
 use Rattle.circuit_file.specs.declared.circuit.Gadget.{Gadget}
 use Rattle.circuit_file.specs.declared.circuit.Params.{Params}
 use Rattle.circuit_file.specs.Circuit.{line_feed, glwe_line, lwe_line, gadget_line, params_text, IsGlwe, IsLwe, IsGadget, IsParams}
-use Rattle.circuit_file.specs.Reading.{◌>>=◌, words_at}
-use Rattle.circuit_file.specs.Numbers.{natural_field}
+use Rattle.refusals.specs.Reading.{◌>>=◌}
+use Rattle.circuit_file.specs.Reading.{Read, literal_at}
+use Rattle.circuit_file.specs.Numbers.{natural_field_at}
 use Rattle.circuit_file.specs.CircuitReading.{glwe_at, lwe_at, gadget_at, params_at, head_at}
-use Rattle.circuit_file.proofs.ReadingLemmas.{bind_some}
+use Rattle.refusals.specs.Steps.{value_of_step}
 use Rattle.circuit_file.proofs.NumberTexts.{at_given, words_taken, words_again, natural_field_taken, natural_field_again}
 
 -- ---- lines of two, three and four numbers, each after its words
@@ -36,27 +37,27 @@ join_four bytes a j b k c m d n end r1 r2 r3 r4 rest first second third fourth l
 
 -- ---- the line of the ring
 
-abbrev after_glwe_error : ℕ → ℕ → ℕ → ℕ × List ℕ → Option (GlweChoice × List ℕ)
-after_glwe_error k log_n ones error = words_at line_feed error.1 >>= λ rest. Some (record { k = k; log_n = log_n; ones = ones; error = error.0 }, rest)
+abbrev after_glwe_error : ℕ → ℕ → ℕ → ℕ × List ℕ → Read (GlweChoice × List ℕ)
+after_glwe_error k log_n ones error = literal_at line_feed error.1 >>= λ rest. Ok (record { k = k; log_n = log_n; ones = ones; error = error.0 }, rest)
 
-abbrev after_glwe_ones : ℕ → ℕ → ℕ × List ℕ → Option (GlweChoice × List ℕ)
-after_glwe_ones k log_n ones = natural_field (codes " ") 0 (2 ^ 62 - 1) ones.1 >>= after_glwe_error k log_n ones.0
+abbrev after_glwe_ones : ℕ → ℕ → ℕ × List ℕ → Read (GlweChoice × List ℕ)
+after_glwe_ones k log_n ones = natural_field_at (codes " ") 0 (2 ^ 62 - 1) ones.1 >>= after_glwe_error k log_n ones.0
 
-abbrev after_log_n : ℕ → ℕ × List ℕ → Option (GlweChoice × List ℕ)
-after_log_n k log_n = natural_field (codes " ") 0 (k * 2 ^ log_n.0) log_n.1 >>= after_glwe_ones k log_n.0
+abbrev after_log_n : ℕ → ℕ × List ℕ → Read (GlweChoice × List ℕ)
+after_log_n k log_n = natural_field_at (codes " ") 0 (k * 2 ^ log_n.0) log_n.1 >>= after_glwe_ones k log_n.0
 
-abbrev after_k : ℕ × List ℕ → Option (GlweChoice × List ℕ)
-after_k k = natural_field (codes " ") 1 13 k.1 >>= after_log_n k.0
+abbrev after_k : ℕ × List ℕ → Read (GlweChoice × List ℕ)
+after_k k = natural_field_at (codes " ") 1 13 k.1 >>= after_log_n k.0
 
-pub glwe_taken : (bytes : List ℕ) (x : GlweChoice × List ℕ) → glwe_at bytes ≡ Some x → (bytes ≡ glwe_line x.0 ++ x.1) × IsGlwe x.0
+pub glwe_taken : (bytes : List ℕ) (x : GlweChoice × List ℕ) → glwe_at bytes ≡ Ok x → (bytes ≡ glwe_line x.0 ++ x.1) × IsGlwe x.0
 unfolding glwe_at
 glwe_taken bytes x e =
-    let k = bind_some (natural_field (codes "glwe ") 1 3 bytes) after_k x e in
-    let log_n = bind_some (natural_field (codes " ") 1 13 k.0.1) (after_log_n k.0.0) x k.2 in
-    let ones = bind_some (natural_field (codes " ") 0 (k.0.0 * 2 ^ log_n.0.0) log_n.0.1) (after_glwe_ones k.0.0 log_n.0.0) x log_n.2 in
-    let error = bind_some (natural_field (codes " ") 0 (2 ^ 62 - 1) ones.0.1) (after_glwe_error k.0.0 log_n.0.0 ones.0.0) x ones.2 in
+    let k = value_of_step (natural_field_at (codes "glwe ") 1 3 bytes) after_k x e in
+    let log_n = value_of_step (natural_field_at (codes " ") 1 13 k.0.1) (after_log_n k.0.0) x k.2 in
+    let ones = value_of_step (natural_field_at (codes " ") 0 (k.0.0 * 2 ^ log_n.0.0) log_n.0.1) (after_glwe_ones k.0.0 log_n.0.0) x log_n.2 in
+    let error = value_of_step (natural_field_at (codes " ") 0 (2 ^ 62 - 1) ones.0.1) (after_glwe_error k.0.0 log_n.0.0 ones.0.0) x ones.2 in
     let made : List ℕ → GlweChoice × List ℕ = λ rest. (record { k = k.0.0; log_n = log_n.0.0; ones = ones.0.0; error = error.0.0 }, rest) in
-    let rest = bind_some (words_at line_feed error.0.1) (λ rest. Some (made rest)) x error.2 in
+    let rest = value_of_step (literal_at line_feed error.0.1) (λ rest. Ok (made rest)) x error.2 in
     let t1 = natural_field_taken (codes "glwe ") 1 3 bytes k.0 k.1 in
     let t2 = natural_field_taken (codes " ") 1 13 k.0.1 log_n.0 log_n.1 in
     let t3 = natural_field_taken (codes " ") 0 (k.0.0 * 2 ^ log_n.0.0) log_n.0.1 ones.0 ones.1 in
@@ -67,13 +68,13 @@ glwe_taken bytes x e =
     at_given (λ (y : GlweChoice × List ℕ). (bytes ≡ glwe_line y.0 ++ y.1) × IsGlwe y.0) (made rest.0) x rest.2 (whole, rules)
 
 -- the ones are few
-few_ones : (k log_n ones : ℕ) → k ≤ 3 → log_n ≤ 13 → ones ≤ k * 2 ^ log_n → ones < 2 ^ 63
+pub few_ones : (k log_n ones : ℕ) → k ≤ 3 → log_n ≤ 13 → ones ≤ k * 2 ^ log_n → ones < 2 ^ 63
 few_ones k log_n ones k_high log_n_high most =
     let power : 2 ^ log_n ≤ 2 ^ 13 = pow-le-pow_right (omega arith) log_n_high in
     let product : k * 2 ^ log_n ≤ 3 * 2 ^ 13 = mul-le-mul k_high power in
     omega arith
 
-pub glwe_again : (g : GlweChoice) (rest : List ℕ) → IsGlwe g → glwe_at (glwe_line g ++ rest) ≡ Some (g, rest)
+pub glwe_again : (g : GlweChoice) (rest : List ℕ) → IsGlwe g → glwe_at (glwe_line g ++ rest) ≡ Ok (g, rest)
 unfolding glwe_at
 glwe_again g rest is =
     let after : List ℕ = line_feed ++ rest in
@@ -88,23 +89,23 @@ glwe_again g rest is =
 
 -- ---- the line of small ciphertexts
 
-abbrev after_lwe_error : ℕ → ℕ → ℕ × List ℕ → Option (LweChoice × List ℕ)
-after_lwe_error n ones error = words_at line_feed error.1 >>= λ rest. Some (record { n = n; ones = ones; error = error.0 }, rest)
+abbrev after_lwe_error : ℕ → ℕ → ℕ × List ℕ → Read (LweChoice × List ℕ)
+after_lwe_error n ones error = literal_at line_feed error.1 >>= λ rest. Ok (record { n = n; ones = ones; error = error.0 }, rest)
 
-abbrev after_lwe_ones : ℕ → ℕ × List ℕ → Option (LweChoice × List ℕ)
-after_lwe_ones n ones = natural_field (codes " ") 0 (2 ^ 62 - 1) ones.1 >>= after_lwe_error n ones.0
+abbrev after_lwe_ones : ℕ → ℕ × List ℕ → Read (LweChoice × List ℕ)
+after_lwe_ones n ones = natural_field_at (codes " ") 0 (2 ^ 62 - 1) ones.1 >>= after_lwe_error n ones.0
 
-abbrev after_n : ℕ × List ℕ → Option (LweChoice × List ℕ)
-after_n n = natural_field (codes " ") 0 n.0 n.1 >>= after_lwe_ones n.0
+abbrev after_n : ℕ × List ℕ → Read (LweChoice × List ℕ)
+after_n n = natural_field_at (codes " ") 0 n.0 n.1 >>= after_lwe_ones n.0
 
-pub lwe_taken : (bytes : List ℕ) (x : LweChoice × List ℕ) → lwe_at bytes ≡ Some x → (bytes ≡ lwe_line x.0 ++ x.1) × IsLwe x.0
+pub lwe_taken : (bytes : List ℕ) (x : LweChoice × List ℕ) → lwe_at bytes ≡ Ok x → (bytes ≡ lwe_line x.0 ++ x.1) × IsLwe x.0
 unfolding lwe_at
 lwe_taken bytes x e =
-    let n = bind_some (natural_field (codes "lwe ") 1 1024 bytes) after_n x e in
-    let ones = bind_some (natural_field (codes " ") 0 n.0.0 n.0.1) (after_lwe_ones n.0.0) x n.2 in
-    let error = bind_some (natural_field (codes " ") 0 (2 ^ 62 - 1) ones.0.1) (after_lwe_error n.0.0 ones.0.0) x ones.2 in
+    let n = value_of_step (natural_field_at (codes "lwe ") 1 1024 bytes) after_n x e in
+    let ones = value_of_step (natural_field_at (codes " ") 0 n.0.0 n.0.1) (after_lwe_ones n.0.0) x n.2 in
+    let error = value_of_step (natural_field_at (codes " ") 0 (2 ^ 62 - 1) ones.0.1) (after_lwe_error n.0.0 ones.0.0) x ones.2 in
     let made : List ℕ → LweChoice × List ℕ = λ rest. (record { n = n.0.0; ones = ones.0.0; error = error.0.0 }, rest) in
-    let rest = bind_some (words_at line_feed error.0.1) (λ rest. Some (made rest)) x error.2 in
+    let rest = value_of_step (literal_at line_feed error.0.1) (λ rest. Ok (made rest)) x error.2 in
     let t1 = natural_field_taken (codes "lwe ") 1 1024 bytes n.0 n.1 in
     let t2 = natural_field_taken (codes " ") 0 n.0.0 n.0.1 ones.0 ones.1 in
     let t3 = natural_field_taken (codes " ") 0 (2 ^ 62 - 1) ones.0.1 error.0 error.1 in
@@ -113,7 +114,7 @@ lwe_taken bytes x e =
     let rules : IsLwe (made rest.0).0 = record { n_low = t1.1; n_high = t1.2; ones = t2.2; error = omega (arith, t3.2) } in
     at_given (λ (y : LweChoice × List ℕ). (bytes ≡ lwe_line y.0 ++ y.1) × IsLwe y.0) (made rest.0) x rest.2 (whole, rules)
 
-pub lwe_again : (l : LweChoice) (rest : List ℕ) → IsLwe l → lwe_at (lwe_line l ++ rest) ≡ Some (l, rest)
+pub lwe_again : (l : LweChoice) (rest : List ℕ) → IsLwe l → lwe_at (lwe_line l ++ rest) ≡ Ok (l, rest)
 unfolding lwe_at
 lwe_again l rest is =
     let after : List ℕ = line_feed ++ rest in
@@ -127,11 +128,11 @@ lwe_again l rest is =
 
 -- ---- a line of digits
 
-abbrev after_level : ℕ → ℕ × List ℕ → Option (Gadget × List ℕ)
-after_level base level = words_at line_feed level.1 >>= λ rest. Some (record { base = base; level = level.0 }, rest)
+abbrev after_level : ℕ → ℕ × List ℕ → Read (Gadget × List ℕ)
+after_level base level = literal_at line_feed level.1 >>= λ rest. Ok (record { base = base; level = level.0 }, rest)
 
-abbrev after_base : ℕ × List ℕ → Option (Gadget × List ℕ)
-after_base base = natural_field (codes " ") 1 (63 / base.0) base.1 >>= after_level base.0
+abbrev after_base : ℕ × List ℕ → Read (Gadget × List ℕ)
+after_base base = natural_field_at (codes " ") 1 (63 / base.0) base.1 >>= after_level base.0
 
 bits_fit : (base level : ℕ) → 1 ≤ base → level ≤ 63 / base → base * level ≤ 63
 bits_fit base level low most = let product : level * base ≤ 63 = (le-div_iff_mul-le {k = base} {x = level} {y = 63} low).0 most in omega (arith, mul_comm base level)
@@ -139,16 +140,16 @@ bits_fit base level low most = let product : level * base ≤ 63 = (le-div_iff_m
 level_fits : (base level : ℕ) → 1 ≤ base → base * level ≤ 63 → level ≤ 63 / base
 level_fits base level low bits = (le-div_iff_mul-le {k = base} {x = level} {y = 63} low).1 (omega (arith, mul_comm base level))
 
-level_below : (base level : ℕ) → 1 ≤ base → base * level ≤ 63 → level < 2 ^ 63
+pub level_below : (base level : ℕ) → 1 ≤ base → base * level ≤ 63 → level < 2 ^ 63
 level_below base level low bits = let product : 1 * level ≤ base * level = mul-le-mul low (omega arith) in omega arith
 
-pub gadget_taken : (name bytes : List ℕ) (x : Gadget × List ℕ) → gadget_at name bytes ≡ Some x → (bytes ≡ gadget_line name x.0 ++ x.1) × IsGadget x.0
+pub gadget_taken : (name bytes : List ℕ) (x : Gadget × List ℕ) → gadget_at name bytes ≡ Ok x → (bytes ≡ gadget_line name x.0 ++ x.1) × IsGadget x.0
 unfolding gadget_at
 gadget_taken name bytes x e =
-    let base = bind_some (natural_field name 1 31 bytes) after_base x e in
-    let level = bind_some (natural_field (codes " ") 1 (63 / base.0.0) base.0.1) (after_level base.0.0) x base.2 in
+    let base = value_of_step (natural_field_at name 1 31 bytes) after_base x e in
+    let level = value_of_step (natural_field_at (codes " ") 1 (63 / base.0.0) base.0.1) (after_level base.0.0) x base.2 in
     let made : List ℕ → Gadget × List ℕ = λ rest. (record { base = base.0.0; level = level.0.0 }, rest) in
-    let rest = bind_some (words_at line_feed level.0.1) (λ rest. Some (made rest)) x level.2 in
+    let rest = value_of_step (literal_at line_feed level.0.1) (λ rest. Ok (made rest)) x level.2 in
     let t1 = natural_field_taken name 1 31 bytes base.0 base.1 in
     let t2 = natural_field_taken (codes " ") 1 (63 / base.0.0) base.0.1 level.0 level.1 in
     let t3 = words_taken line_feed level.0.1 rest.0 rest.1 in
@@ -156,7 +157,7 @@ gadget_taken name bytes x e =
     let rules : IsGadget (made rest.0).0 = record { base_low = t1.1; base_high = t1.2; level_low = t2.1; bits = bits_fit base.0.0 level.0.0 t1.1 t2.2 } in
     at_given (λ (y : Gadget × List ℕ). (bytes ≡ gadget_line name y.0 ++ y.1) × IsGadget y.0) (made rest.0) x rest.2 (whole, rules)
 
-pub gadget_again : (name : List ℕ) (g : Gadget) (rest : List ℕ) → IsGadget g → gadget_at name (gadget_line name g ++ rest) ≡ Some (g, rest)
+pub gadget_again : (name : List ℕ) (g : Gadget) (rest : List ℕ) → IsGadget g → gadget_at name (gadget_line name g ++ rest) ≡ Ok (g, rest)
 unfolding gadget_at
 gadget_again name g rest is =
     ap (gadget_at name) (regroup_two name (decimal g.base) (codes " ") (decimal g.level) line_feed rest)
@@ -168,13 +169,13 @@ gadget_again name g rest is =
 
 -- ---- the four lines
 
-abbrev after_boot : GlweChoice → LweChoice → Gadget × List ℕ → Option (Params × List ℕ)
-after_boot glwe lwe boot = gadget_at (codes "switch ") boot.1 >>= λ switch. Some (record { glwe = glwe; lwe = lwe; boot = boot.0; switch = switch.0 }, switch.1)
+abbrev after_boot : GlweChoice → LweChoice → Gadget × List ℕ → Read (Params × List ℕ)
+after_boot glwe lwe boot = gadget_at (codes "switch ") boot.1 >>= λ switch. Ok (record { glwe = glwe; lwe = lwe; boot = boot.0; switch = switch.0 }, switch.1)
 
-abbrev after_lwe : GlweChoice → LweChoice × List ℕ → Option (Params × List ℕ)
+abbrev after_lwe : GlweChoice → LweChoice × List ℕ → Read (Params × List ℕ)
 after_lwe glwe lwe = gadget_at (codes "boot ") lwe.1 >>= after_boot glwe lwe.0
 
-abbrev after_glwe : GlweChoice × List ℕ → Option (Params × List ℕ)
+abbrev after_glwe : GlweChoice × List ℕ → Read (Params × List ℕ)
 after_glwe glwe = lwe_at glwe.1 >>= after_lwe glwe.0
 
 regroup_lines : (a b c d rest : List ℕ) → (a ++ (b ++ (c ++ d))) ++ rest ≡ a ++ (b ++ (c ++ (d ++ rest)))
@@ -183,14 +184,14 @@ regroup_lines a b c d rest = simp append_assoc
 join_lines : (bytes a b c d r1 r2 r3 rest : List ℕ) → bytes ≡ a ++ r1 → r1 ≡ b ++ r2 → r2 ≡ c ++ r3 → r3 ≡ d ++ rest → bytes ≡ (a ++ (b ++ (c ++ d))) ++ rest
 join_lines bytes a b c d r1 r2 r3 rest first second third fourth = let whole = regroup_lines a b c d rest in cc
 
-pub params_taken : (bytes : List ℕ) (x : Params × List ℕ) → params_at bytes ≡ Some x → (bytes ≡ params_text x.0 ++ x.1) × IsParams x.0
+pub params_taken : (bytes : List ℕ) (x : Params × List ℕ) → params_at bytes ≡ Ok x → (bytes ≡ params_text x.0 ++ x.1) × IsParams x.0
 unfolding params_at
 params_taken bytes x e =
-    let glwe = bind_some (glwe_at bytes) after_glwe x e in
-    let lwe = bind_some (lwe_at glwe.0.1) (after_lwe glwe.0.0) x glwe.2 in
-    let boot = bind_some (gadget_at (codes "boot ") lwe.0.1) (after_boot glwe.0.0 lwe.0.0) x lwe.2 in
+    let glwe = value_of_step (glwe_at bytes) after_glwe x e in
+    let lwe = value_of_step (lwe_at glwe.0.1) (after_lwe glwe.0.0) x glwe.2 in
+    let boot = value_of_step (gadget_at (codes "boot ") lwe.0.1) (after_boot glwe.0.0 lwe.0.0) x lwe.2 in
     let made : Gadget × List ℕ → Params × List ℕ = λ switch. (record { glwe = glwe.0.0; lwe = lwe.0.0; boot = boot.0.0; switch = switch.0 }, switch.1) in
-    let switch = bind_some (gadget_at (codes "switch ") boot.0.1) (λ switch. Some (made switch)) x boot.2 in
+    let switch = value_of_step (gadget_at (codes "switch ") boot.0.1) (λ switch. Ok (made switch)) x boot.2 in
     let t1 = glwe_taken bytes glwe.0 glwe.1 in
     let t2 = lwe_taken glwe.0.1 lwe.0 lwe.1 in
     let t3 = gadget_taken (codes "boot ") lwe.0.1 boot.0 boot.1 in
@@ -199,7 +200,7 @@ params_taken bytes x e =
     let rules : IsParams (made switch.0).0 = record { glwe = t1.1; lwe = t2.1; boot = t3.1; switch = t4.1 } in
     at_given (λ (y : Params × List ℕ). (bytes ≡ params_text y.0 ++ y.1) × IsParams y.0) (made switch.0) x switch.2 (whole, rules)
 
-pub params_again : (p : Params) (rest : List ℕ) → IsParams p → params_at (params_text p ++ rest) ≡ Some (p, rest)
+pub params_again : (p : Params) (rest : List ℕ) → IsParams p → params_at (params_text p ++ rest) ≡ Ok (p, rest)
 unfolding params_at
 params_again p rest is =
     let switch : List ℕ = gadget_line (codes "switch ") p.switch ++ rest in
@@ -215,14 +216,14 @@ width_line width = codes "width " ++ (decimal width ++ line_feed)
 
 -- ---- the lines before the nodes
 
-abbrev after_width_line : ℕ → List ℕ → Option (ℕ × Params × List ℕ)
-after_width_line width lines = params_at lines >>= λ params. Some (width, params.0, params.1)
+abbrev after_width_line : ℕ → List ℕ → Read (ℕ × Params × List ℕ)
+after_width_line width lines = params_at lines >>= λ params. Ok (width, params.0, params.1)
 
-abbrev after_width : ℕ × List ℕ → Option (ℕ × Params × List ℕ)
-after_width width = words_at line_feed width.1 >>= after_width_line width.0
+abbrev after_width : ℕ × List ℕ → Read (ℕ × Params × List ℕ)
+after_width width = literal_at line_feed width.1 >>= after_width_line width.0
 
-abbrev after_title : List ℕ → Option (ℕ × Params × List ℕ)
-after_title head = natural_field (codes "width ") 1 16 head >>= after_width
+abbrev after_title : List ℕ → Read (ℕ × Params × List ℕ)
+after_title head = natural_field_at (codes "width ") 1 16 head >>= after_width
 
 pub record IsHead (bytes : List ℕ) (x : ℕ × Params × List ℕ) : Type 0 where
   pub parts : bytes ≡ title ++ (width_line x.0 ++ (params_text x.1 ++ x.2))
@@ -233,14 +234,14 @@ pub record IsHead (bytes : List ℕ) (x : ℕ × Params × List ℕ) : Type 0 wh
 join_head : (bytes a b n end c r1 r2 r3 rest : List ℕ) → bytes ≡ a ++ r1 → r1 ≡ b ++ (n ++ r2) → r2 ≡ end ++ r3 → r3 ≡ c ++ rest → bytes ≡ a ++ ((b ++ (n ++ end)) ++ (c ++ rest))
 join_head bytes a b n end c r1 r2 r3 rest first second third fourth = simp append_assoc cc
 
-pub head_taken : (bytes : List ℕ) (x : ℕ × Params × List ℕ) → head_at bytes ≡ Some x → IsHead bytes x
+pub head_taken : (bytes : List ℕ) (x : ℕ × Params × List ℕ) → head_at bytes ≡ Ok x → IsHead bytes x
 unfolding head_at
 head_taken bytes x e =
-    let head = bind_some (words_at title bytes) after_title x e in
-    let width = bind_some (natural_field (codes "width ") 1 16 head.0) after_width x head.2 in
-    let lines = bind_some (words_at line_feed width.0.1) (after_width_line width.0.0) x width.2 in
+    let head = value_of_step (literal_at title bytes) after_title x e in
+    let width = value_of_step (natural_field_at (codes "width ") 1 16 head.0) after_width x head.2 in
+    let lines = value_of_step (literal_at line_feed width.0.1) (after_width_line width.0.0) x width.2 in
     let made : Params × List ℕ → ℕ × Params × List ℕ = λ params. (width.0.0, params.0, params.1) in
-    let params = bind_some (params_at lines.0) (λ params. Some (made params)) x lines.2 in
+    let params = value_of_step (params_at lines.0) (λ params. Ok (made params)) x lines.2 in
     let t1 = words_taken title bytes head.0 head.1 in
     let t2 = natural_field_taken (codes "width ") 1 16 head.0 width.0 width.1 in
     let t3 = words_taken line_feed width.0.1 lines.0 lines.1 in
@@ -248,7 +249,7 @@ head_taken bytes x e =
     let whole = join_head bytes title (codes "width ") (decimal width.0.0) line_feed (params_text params.0.0) head.0 width.0.1 lines.0 params.0.1 t1 t2.0 t3 t4.0 in
     at_given (IsHead bytes) (made params.0) x params.2 (record { parts = whole; low = t2.1; high = t2.2; params = t4.1 })
 
-pub head_again : (width : ℕ) (params : Params) (rest : List ℕ) → 1 ≤ width → width ≤ 16 → IsParams params → head_at (title ++ (width_line width ++ (params_text params ++ rest))) ≡ Some (width, params, rest)
+pub head_again : (width : ℕ) (params : Params) (rest : List ℕ) → 1 ≤ width → width ≤ 16 → IsParams params → head_at (title ++ (width_line width ++ (params_text params ++ rest))) ≡ Ok (width, params, rest)
 unfolding head_at
 head_again width params rest low high is =
     let after : List ℕ = params_text params ++ rest in

@@ -11,6 +11,7 @@ use Rattle.circuit_file.specs.declared.circuit.Term.{Term}
 use Rattle.circuit_file.specs.declared.circuit.WeightedSum.{WeightedSum}
 use Rattle.circuit_file.specs.declared.circuit.Out.{Out}
 use Rattle.circuit_file.specs.declared.circuit.Circuit.{Circuit}
+use Rattle.circuit_file.specs.Limits.{most_polynomials, most_log_n, most_small_dimension, error_limit, most_base, most_digit_bits, most_width, bound_limit, most_inputs, most_sums, most_outs, most_weight, most_constant}
 use Rattle.circuit_file.specs.Ranges.{IsInputRange}
 
 -- the dimension of big ciphertexts: the coefficients of k polynomials
@@ -128,26 +129,27 @@ circuit_text c =
 -- the parameter line of the ring keeps its limits
 pub record IsGlwe (g : GlweChoice) : Type 0 where
   pub k_low : 1 ≤ g.k
-  pub k_high : g.k ≤ 3
+  pub k_high : g.k ≤ most_polynomials
   pub log_n_low : 1 ≤ g.log_n
-  pub log_n_high : g.log_n ≤ 13
+  pub log_n_high : g.log_n ≤ most_log_n
   pub ones : g.ones ≤ g.k * 2 ^ g.log_n
-  pub error : g.error < 2 ^ 62
+  pub error : g.error < error_limit
 
 -- the parameter line of small ciphertexts keeps its limits
 pub record IsLwe (l : LweChoice) : Type 0 where
   pub n_low : 1 ≤ l.n
-  pub n_high : l.n ≤ 1024
+  pub n_high : l.n ≤ most_small_dimension
   pub ones : l.ones ≤ l.n
-  pub error : l.error < 2 ^ 62
+  pub error : l.error < error_limit
 
 -- a parameter line of digits keeps its limits
 pub record IsGadget (g : Gadget) : Type 0 where
   pub base_low : 1 ≤ g.base
-  pub base_high : g.base ≤ 31
+  pub base_high : g.base ≤ most_base
   pub level_low : 1 ≤ g.level
-  pub bits : g.base * g.level ≤ 63
+  pub bits : g.base * g.level ≤ most_digit_bits
 
+-- the four parameter lines keep their limits
 pub record IsParams (p : Params) : Type 0 where
   pub glwe : IsGlwe p.glwe
   pub lwe : IsLwe p.lwe
@@ -158,20 +160,20 @@ pub record IsParams (p : Params) : Type 0 where
 abbrev pub IsRange : Range → Type 0
 IsRange r = IsInputRange r.lo r.hi
 
--- a term of a sum over so many inputs: on one of them, with a weight that is not 0 and at most 2^40 in size
+-- a term of a sum over so many inputs: on one of them, with a weight that is not 0 and within its limit
 pub record IsTerm (inputs : ℕ) (t : Term) : Type 0 where
   pub node : t.node < inputs
   pub weight : t.weight ≢ pos 0
-  pub size : unsigned_abs t.weight ≤ 2 ^ 40
+  pub size : unsigned_abs t.weight ≤ most_weight
 
 -- the terms rise in their nodes, from this number on
 abbrev pub AreRising : ℕ → List Term → Type 0
 AreRising low [] = Unit {0}
 AreRising low (t ∷ ts) = (low ≤ t.node) × AreRising (t.node + 1) ts
 
--- a sum over so many inputs: a constant of at most 2^41 in size, and terms that rise
+-- a sum over so many inputs: a constant within its limit, and terms that rise
 pub record IsSum (inputs : ℕ) (s : WeightedSum) : Type 0 where
-  pub constant : unsigned_abs s.constant ≤ 2 ^ 41
+  pub constant : unsigned_abs s.constant ≤ most_constant
   pub terms : All (IsTerm inputs) s.terms
   pub rising : AreRising 0 s.terms
 
@@ -179,24 +181,24 @@ pub record IsSum (inputs : ℕ) (s : WeightedSum) : Type 0 where
 abbrev pub span_of : Range → ℤ
 span_of r = r.hi -ℤ r.lo
 
--- an output is a node's, has its range, and the node's bound is below half of the distance of two messages
+-- an output is a node's, has its range, and the node's bound is below its limit
 pub record IsOut (c : Circuit) (o : Out) : Type 0 where
   pub node : o.node < node_count c
   pub same : o.range ≡ range_of_node c o.node
   pub range : IsRange o.range
   pub span : span_of o.range ≤ℤ pos (2 ^ c.width - 1)
-  pub bound : bound_of_node c o.node < 2 ^ (62 - c.width)
+  pub bound : bound_of_node c o.node < bound_limit c.width
 
--- the rules of a circuit: limits, ranges, sums, outputs, and the least width from 1, at most 16, that every output's range fits
+-- the rules of a circuit: limits, ranges, sums, outputs, and the least width from 1 that every output's range fits
 pub record IsCircuit (c : Circuit) : Type 0 where
   pub params : IsParams c.params
   pub width_low : 1 ≤ c.width
-  pub width_high : c.width ≤ 16
-  pub input_number : length c.inputs ≤ 64
+  pub width_high : c.width ≤ most_width
+  pub input_number : length c.inputs ≤ most_inputs
   pub inputs : All IsRange c.inputs
-  pub sum_number : length c.sums ≤ 1088
+  pub sum_number : length c.sums ≤ most_sums
   pub sums : All (IsSum (length c.inputs)) c.sums
   pub out_low : 1 ≤ length c.outs
-  pub out_high : length c.outs ≤ 64
+  pub out_high : length c.outs ≤ most_outs
   pub outs : All (IsOut c) c.outs
   pub least : (c.width ≡ 1) ⊎ Any (λ o. pos (2 ^ (c.width - 1)) ≤ℤ span_of o.range) c.outs

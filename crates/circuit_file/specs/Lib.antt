@@ -1,7 +1,7 @@
+pub mod Limits
 pub mod Ranges
 pub mod Reading
 pub mod Numbers
 pub mod Circuit
 pub mod CircuitReading
-pub mod CircuitLaws
-pub mod Refusal
+pub mod Laws

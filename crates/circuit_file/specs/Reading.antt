@@ -1,13 +1,19 @@
--- Reading a text from its front: a step gives a value and the bytes after it, or nothing where they spell none.
-use Rattle.std.specs.Prelude.{ℕ, List, take, drop, length, Option, Some, None, if◌then◌else◌}
+-- Reading a text from its front: a step gives a value and the bytes after it, or the fault where they spell none. A
+-- name that ends in `_at` is such a step; one that ends in `_of` reads the whole of its bytes.
+use Rattle.std.specs.Prelude.{ℕ, List, take, drop, length, Result, Ok, Err, if◌then◌else◌}
 use Rattle.std.specs.Str.{bytes_eq}
+use Rattle.circuit_file.specs.declared.fault.CircuitFault.{CircuitFault}
+use Rattle.circuit_file.specs.declared.fault.CircuitKind.TheVariants.{Later}
 
-infixl 10 ◌>>=◌
--- a step and the next one, which goes on from it
-abbrev pub ◌>>=◌ : {A B : Type 0} → Option A → (A → Option B) → Option B
-(Some x) >>= next = next x
-None >>= next = None
+-- what is read, or the first fault
+abbrev pub Read : Type 0 → Type 0
+Read A = Result A CircuitFault
 
--- the words stand at the front: the bytes after them
-unfoldable pub words_at : List ℕ → List ℕ → Option (List ℕ)
-words_at words bytes = if bytes_eq (take (length words) bytes) words then Some (drop (length words) bytes) else None
+-- the fault of a text that spells no circuit: one for all rules so far
+abbrev pub text_fault : CircuitFault
+text_fault = record { line = 1; kind = Later }
+
+-- the literal text stands at the front: the bytes after it
+unfoldable pub literal_at : List ℕ → List ℕ → Read (List ℕ)
+literal_at literal bytes =
+    if bytes_eq (take (length literal) bytes) literal then Ok (drop (length literal) bytes) else Err text_fault

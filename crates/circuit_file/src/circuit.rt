@@ -1,7 +1,8 @@
 //! A circuit: its parameters, its width, its nodes and its outputs.
 
 ghost use Rattle.std.specs.Prelude.{◌≡◌, ◌≤◌};
-ghost use Rattle.circuit_file.specs.Circuit.{dimension as dimension_of, IsGlwe};
+ghost use Rattle.circuit_file.specs.Limits.{most_dimension};
+ghost use Rattle.circuit_file.specs.Circuit.{dimension, IsGlwe};
 
 use lists::List;
 
@@ -43,8 +44,8 @@ pub struct Params {
 /// The dimension of big ciphertexts: the number of coefficients of the `k` mask polynomials.
 pub fn dimension(params: &Params) -> u32
     requires { IsGlwe params.now.glwe }
-    ensures number { result ≡ dimension_of params.now }
-    ensures most { result ≤ 24576 }
+    ensures number { result ≡ dimension params.now }
+    ensures most { result ≤ most_dimension }
 {
     params.glwe.k * (1 << params.glwe.log_n)
 }

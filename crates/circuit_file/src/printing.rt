@@ -1,13 +1,15 @@
 //! Writing a circuit as its text.
 
-ghost use Rattle.std.specs.Prelude.{◌≡◌, ◌++◌, ◌+◌, ◌<◌, ◌^◌, length, codes, OnOk, IfOk};
+ghost use Rattle.std.specs.Prelude.{◌≡◌, ◌++◌, ◌+◌, ◌<◌, ◌≤◌, ◌^◌, length, codes, OnOk, IfOk};
 ghost use Rattle.std.specs.String.{string_bytes};
 ghost use Rattle.std.specs.List.{flat_map};
+ghost use Rattle.circuit_file.specs.Limits.{circuit_limit};
 ghost use Rattle.circuit_file.specs.Circuit.{glwe_line, lwe_line, gadget_line, params_text, range_line, input_line, input_lines, term_text, sum_line, sum_lines, out_line, circuit_text, IsCircuit};
 
 use crate::circuit::{
     Circuit, Gadget, GlweChoice, LweChoice, Out, Params, Range, Term, WeightedSum,
 };
+use crate::laws::laws;
 use std::alloc::{AllocError, Global};
 use std::fmt::Write;
 
@@ -135,8 +137,11 @@ pub fn print_params(alloc: Global, params: &Params) -> Result<String, AllocError
 /// The one text of the circuit. It fails only for memory.
 pub fn print_circuit(alloc: Global, circuit: &Circuit) -> Result<Vec<u8>, AllocError>
     requires { IsCircuit circuit.now }
-    ensures { IfOk result (λ text. text.items ≡ circuit_text circuit.now) }
+    ensures spelled { IfOk result (λ text. text.items ≡ circuit_text circuit.now) }
+    // So it can be read back from a file.
+    ensures size { IfOk result (λ text. length text.items ≤ circuit_limit) }
 {
+    laws();
     let mut text = String::from_str(alloc, "fhec circuit 1\n")?;
     let width = circuit.width;
     write!(text, "width {width}\n")?;

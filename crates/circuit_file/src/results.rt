@@ -1,24 +1,26 @@
 //! What is computed afresh of a circuit: the ranges and the noise bounds of its nodes, and the tests of them.
 
 ghost use Rattle.std.specs.Prelude.{◌≡◌, ◌≤◌, ◌<◌, ◌^◌, ◌*ℤ◌, length, unsigned_abs, All};
+ghost use Rattle.circuit_file.specs.Limits.{most_weight, most_inputs, most_width, error_limit};
 ghost use Rattle.circuit_file.specs.Ranges.{IsWithin};
 ghost use Rattle.std.specs.List.{list_all, list_any};
-ghost use Rattle.circuit_file.specs.Circuit.{IsRange, IsTerm, IsSum, least_of, greatest_of, node_count as count_of, range_of_sum as range_of, range_of_node as node_range, bound_of_sum as bound_of, bound_of_node as node_bound};
-ghost use Rattle.circuit_file.specs.CircuitReading.{KeepsLimits, is_same_range as range_test, fits_width as fits_test, is_bound_kept as bound_test, is_out_right as out_test, needs_width as width_test, are_results_right as results_test};
+ghost use Rattle.circuit_file.specs.Circuit.{IsRange, IsTerm, IsSum, least_of, greatest_of, node_count, range_of_sum, range_of_node, bound_of_sum, bound_of_node};
+ghost use Rattle.circuit_file.specs.CircuitReading.{KeepsLimits, is_same_range, fits_width, is_bound_kept, is_out_right, needs_width, are_results_right};
 
 use crate::circuit::{Circuit, Out, Params, Range, Term, WeightedSum};
+use crate::limits::BOUND_BITS;
 
 /// How many nodes there are.
 fn node_count(circuit: &Circuit) -> usize
     requires { KeepsLimits circuit.now }
-    ensures { result ≡ count_of circuit.now }
+    ensures { result ≡ node_count circuit.now }
 {
     circuit.inputs.len() + circuit.sums.len()
 }
 
 /// The product of a weight and an end of an input's range.
 fn product(weight: i64, end: i64) -> i64
-    requires weight { unsigned_abs weight ≤ 2 ^ 40 }
+    requires weight { unsigned_abs weight ≤ most_weight }
     requires end { unsigned_abs end ≤ 2 ^ 16 }
     ensures value { result ≡ weight *ℤ end }
     ensures size { IsWithin (2 ^ 56) result }
@@ -60,10 +62,10 @@ fn greatest_of_term(inputs: &[Range], term: Term) -> i64
 
 /// The range of a sum: the constant and the ends of its terms.
 fn range_of_sum(inputs: &[Range], sum: &WeightedSum) -> Range
-    requires number { length inputs.now ≤ 64 }
+    requires number { length inputs.now ≤ most_inputs }
     requires inputs { All IsRange inputs.now }
     requires sum { IsSum (length inputs.now) sum.now }
-    ensures { result ≡ range_of inputs.now sum.now }
+    ensures { result ≡ range_of_sum inputs.now sum.now }
 {
     let mut lo = sum.constant;
     let mut hi = sum.constant;
@@ -78,8 +80,8 @@ fn range_of_sum(inputs: &[Range], sum: &WeightedSum) -> Range
 /// The range of a node.
 fn range_of_node(circuit: &Circuit, node: u32) -> Range
     requires limits { KeepsLimits circuit.now }
-    requires node { node < count_of circuit.now }
-    ensures { result ≡ node_range circuit.now node }
+    requires node { node < node_count circuit.now }
+    ensures { result ≡ range_of_node circuit.now node }
 {
     let inputs = circuit.inputs.as_slice();
     let index = node as usize;
@@ -93,10 +95,10 @@ fn range_of_node(circuit: &Circuit, node: u32) -> Range
 
 /// The noise bound of a sum: the size of each weight times the bound of a fresh input.
 fn bound_of_sum(inputs: usize, params: &Params, sum: &WeightedSum) -> u128
-    requires number { inputs ≤ 64 }
-    requires error { params.now.glwe.error < 2 ^ 62 }
+    requires number { inputs ≤ most_inputs }
+    requires error { params.now.glwe.error < error_limit }
     requires sum { IsSum inputs sum.now }
-    ensures { result ≡ bound_of params.now sum.now }
+    ensures { result ≡ bound_of_sum params.now sum.now }
 {
     let mut bound = 0;
     let terms = sum.terms.as_slice();
@@ -109,8 +111,8 @@ fn bound_of_sum(inputs: usize, params: &Params, sum: &WeightedSum) -> u128
 /// The noise bound of a node: at most how far a decryption of it is off before it is rounded, in parts of 2^64.
 fn bound_of_node(circuit: &Circuit, node: u32) -> u128
     requires limits { KeepsLimits circuit.now }
-    requires node { node < count_of circuit.now }
-    ensures { result ≡ node_bound circuit.now node }
+    requires node { node < node_count circuit.now }
+    ensures { result ≡ bound_of_node circuit.now node }
 {
     let inputs = circuit.inputs.len();
     let index = node as usize;
@@ -124,7 +126,7 @@ fn bound_of_node(circuit: &Circuit, node: u32) -> u128
 
 /// Whether two ranges are one.
 fn is_same_range(a: Range, b: Range) -> bool
-    ensures { result ≡ range_test a b }
+    ensures { result ≡ is_same_range a b }
 {
     a.lo == b.lo && a.hi == b.hi
 }
@@ -132,19 +134,19 @@ fn is_same_range(a: Range, b: Range) -> bool
 /// Whether `hi - lo` is below `2^width`.
 fn fits_width(range: Range, width: u32) -> bool
     requires range { IsRange range }
-    requires high { width ≤ 16 }
-    ensures { result ≡ fits_test range width }
+    requires high { width ≤ most_width }
+    ensures { result ≡ fits_width range width }
 {
     range.hi - range.lo < 1 << width
 }
 
-/// Whether the noise bound of the node is below `2^(62 - width)`.
+/// Whether the noise bound of the node is below its limit.
 fn is_bound_kept(circuit: &Circuit, node: u32) -> bool
     requires limits { KeepsLimits circuit.now }
-    requires node { node < count_of circuit.now }
-    ensures { result ≡ bound_test circuit.now node }
+    requires node { node < node_count circuit.now }
+    ensures { result ≡ is_bound_kept circuit.now node }
 {
-    let limit: u64 = 1 << (62 - circuit.width);
+    let limit: u64 = 1 << (BOUND_BITS - circuit.width);
     bound_of_node(circuit, node) < u128::from(limit)
 }
 
@@ -152,7 +154,7 @@ fn is_bound_kept(circuit: &Circuit, node: u32) -> bool
 fn is_out_right(circuit: &Circuit, out: Out) -> bool
     requires limits { KeepsLimits circuit.now }
     requires range { IsRange out.range }
-    ensures { result ≡ out_test circuit.now out }
+    ensures { result ≡ is_out_right circuit.now out }
 {
     if out.node as usize >= node_count(circuit) {
         return false;
@@ -166,7 +168,7 @@ fn is_out_right(circuit: &Circuit, out: Out) -> bool
 /// Whether each output is right.
 fn are_outs_right(circuit: &Circuit) -> bool
     requires { KeepsLimits circuit.now }
-    ensures { result ≡ list_all (out_test circuit.now) circuit.now.outs }
+    ensures { result ≡ list_all (is_out_right circuit.now) circuit.now.outs }
 {
     circuit
         .outs
@@ -178,9 +180,9 @@ fn are_outs_right(circuit: &Circuit) -> bool
 /// Whether an output needs the width: `hi - lo` is not below half of `2^width`.
 fn needs_width(width: u32, out: Out) -> bool
     requires low { 1 ≤ width }
-    requires high { width ≤ 16 }
+    requires high { width ≤ most_width }
     requires range { IsRange out.range }
-    ensures { result ≡ width_test width out }
+    ensures { result ≡ needs_width width out }
 {
     1 << (width - 1) <= out.range.hi - out.range.lo
 }
@@ -188,7 +190,7 @@ fn needs_width(width: u32, out: Out) -> bool
 /// Whether some output needs the width.
 fn is_width_needed(circuit: &Circuit) -> bool
     requires { KeepsLimits circuit.now }
-    ensures { result ≡ list_any (width_test circuit.now.width) circuit.now.outs }
+    ensures { result ≡ list_any (needs_width circuit.now.width) circuit.now.outs }
 {
     circuit
         .outs
@@ -200,7 +202,7 @@ fn is_width_needed(circuit: &Circuit) -> bool
 /// Whether what is computed afresh is right: at least one output, each right, and the least width from 1.
 pub fn are_results_right(circuit: &Circuit) -> bool
     requires { KeepsLimits circuit.now }
-    ensures { result ≡ results_test circuit.now }
+    ensures { result ≡ are_results_right circuit.now }
 {
     !circuit.outs.is_empty()
         && are_outs_right(circuit)

@@ -106,7 +106,7 @@ fn faults(rt: HostRuntime) -> Result<(), Fail> {
 
 #[test]
 fn two_inputs(rt: HostRuntime) -> Result<(), Fail> {
-    circuit_text_laws();
+    laws::laws();
     let text = text_of(rt.alloc(), 3, TWO_INPUTS)?;
     let circuit = read_circuit(rt.alloc(), text.as_bytes())
         .ok()

@@ -13,8 +13,8 @@ use Rattle.std.proofs.lemmas.List.Elements.{recursion_from_All}
 use Rattle.word_ring.specs.Words.{IsWord}
 use Rattle.word_ring.specs.Rows.{sum_with_scaled, RowLaws}
 use Rattle.word_ring.specs.Signed.{word_of}
-use Rattle.lwe_core.specs.Encrypts.{Encrypts, DecodingLaws}
-use Rattle.lwe_core.specs.Noise.{NoiseLaws}
+use Rattle.lwe_core.specs.Encrypts.{Encrypts}
+use Rattle.lwe_core.specs.Laws.{DecodingLaws, NoiseLaws}
 use Rattle.circuit_file.specs.declared.circuit.Range.{Range}
 use Rattle.circuit_file.specs.declared.circuit.Term.{Term}
 use Rattle.circuit_file.specs.declared.circuit.WeightedSum.{WeightedSum}
@@ -68,34 +68,33 @@ turned a b = omega (arith, ints)
 turned_naturals : (whole first rest : ℕ) → whole ≡ first + rest → whole ≡ rest + first
 turned_naturals whole first rest e = omega arith
 
-weighted_noise : CiphertextLaws → (bits : List Bool) (width error : ℕ) (rows : List (List ℕ)) (values : List ℤ) (terms : List Term) → StandFor bits width error rows values → All (λ row. length row ≡ length bits + 1) rows → AllByRecursion (IsTerm (length rows)) terms
+weighted_noise : CiphertextLaws → (bits : List Bool) (width error : ℕ) (rows : List (List ℕ)) (values : List ℤ) (terms : List Term) → StandFor bits width error rows values → AllByRecursion (IsTerm (length rows)) terms
     → Encrypts bits (weighted_row (length bits) rows terms) (int_sum (map (λ t. t.weight *ℤ value_of values t.node) terms)) width (sum_by (λ t. unsigned_abs t.weight * error) terms)
-weighted_noise laws bits width error rows values [] stand long is =
+weighted_noise laws bits width error rows values [] stand is =
     let zeros : List ℕ = replicate (length bits + 1) 0 in
     subst (λ row. Encrypts bits row (pos 0) width 0) (sym (laws.rows.combined_none zeros (zeros_are_words (length bits + 1)))) (laws.noise.encrypts_zero bits width)
-weighted_noise laws bits width error rows values (t ∷ ts) stand long is =
+weighted_noise laws bits width error rows values (t ∷ ts) stand is =
     let zeros : List ℕ = replicate (length bits + 1) 0 in
     let row : List ℕ = row_of rows t.node in
     let others : List ℕ = weighted_row (length bits) rows ts in
     let value : ℤ = value_of values t.node in
     let rest : ℤ = int_sum (map (λ t. t.weight *ℤ value_of values t.node) ts) in
     let bound : ℕ = sum_by (λ t. unsigned_abs t.weight * error) ts in
-    let row_long : length row ≡ length bits + 1 = long t.node [] is.0.node in
-    let others_long : length others ≡ length bits + 1 = length-weighted_row (length bits) rows ts in
-    let more = laws.noise.encrypts_sum_with_multiple bits others row rest value t.weight width bound error others_long row_long (weighted_noise laws bits width error rows values ts stand long is.1) (stand_at bits width error rows values t.node stand is.0.node) in
+    let input = stand_at bits width error rows values t.node stand is.0.node in
+    let more = laws.noise.encrypts_sum_with_multiple bits others row rest value t.weight width bound error (weighted_noise laws bits width error rows values ts stand is.1) input in
     otherwise bits width (sum_with_scaled others (word_of t.weight) row) _ (rest +ℤ t.weight *ℤ value) _ (bound + unsigned_abs t.weight * error) _
-    (laws.rows.combined_first zeros (map (λ t. word_of t.weight) ts) (map (λ t. row_of rows t.node) ts) (word_of t.weight) row (row_long ∙ sym (length-replicate {A = ℕ} (length bits + 1) 0)))
+    (laws.rows.combined_first zeros (map (λ t. word_of t.weight) ts) (map (λ t. row_of rows t.node) ts) (word_of t.weight) row (input.fits ∙ sym (length-replicate {A = ℕ} (length bits + 1) 0)))
     (turned (t.weight *ℤ value) rest)
     (turned_naturals _ (unsigned_abs t.weight * error) bound (sum_by-cons (λ t. unsigned_abs t.weight * error) t ts))
     more
 
-sum_noise : CiphertextLaws → (bits : List Bool) (width error : ℕ) (rows : List (List ℕ)) (values : List ℤ) (s : WeightedSum) → StandFor bits width error rows values → All (λ row. length row ≡ length bits + 1) rows → IsSum (length rows) s
+sum_noise : CiphertextLaws → (bits : List Bool) (width error : ℕ) (rows : List (List ℕ)) (values : List ℤ) (s : WeightedSum) → StandFor bits width error rows values → IsSum (length rows) s
     → Encrypts bits (sum_row (length bits) width rows s) (value_of_sum values s) width (sum_by (λ t. unsigned_abs t.weight * error) s.terms)
-sum_noise laws bits width error rows values s stand long is =
+sum_noise laws bits width error rows values s stand is =
     let terms : ℤ = int_sum (map (λ t. t.weight *ℤ value_of values t.node) s.terms) in
-    let weighted = weighted_noise laws bits width error rows values s.terms stand long (recursion_from_All (IsTerm (length rows)) s.terms is.terms) in
+    let weighted = weighted_noise laws bits width error rows values s.terms stand (recursion_from_All (IsTerm (length rows)) s.terms is.terms) in
     otherwise bits width _ _ (terms +ℤ s.constant) _ _ _ refl (turned s.constant terms) refl
-    (laws.noise.encrypts_message bits (weighted_row (length bits) rows s.terms) terms s.constant width (sum_by (λ t. unsigned_abs t.weight * error) s.terms) (length-weighted_row (length bits) rows s.terms) weighted)
+    (laws.noise.encrypts_message bits (weighted_row (length bits) rows s.terms) terms s.constant width (sum_by (λ t. unsigned_abs t.weight * error) s.terms) weighted)
 
 -- ---- nodes
 
@@ -106,8 +105,8 @@ chosen bits width false row row' value value' bound bound' first second = second
 sum_is : (c : Circuit) (node : ℕ) → IsCircuit c → node < node_count c → length c.inputs ≤ node → IsSum (length c.inputs) (sum_at c node)
 sum_is c node is lt past = is.sums (node - length c.inputs) (record { constant = pos 0; terms = [] }) (omega (arith, lt, past))
 
-node_noise : CiphertextLaws → (c : Circuit) (big small : List Bool) (values : List ℤ) (rows : List (List ℕ)) (node : ℕ) → IsCircuit c → All (λ row. length row ≡ dimension c.params + 1) rows → AreGood c big small values rows → node < node_count c → Encrypts big (node_row c rows node) (clear_value c values node) c.width (bound_of_node c node)
-node_noise laws c big small values rows node is long good lt =
+node_noise : CiphertextLaws → (c : Circuit) (big small : List Bool) (values : List ℤ) (rows : List (List ℕ)) (node : ℕ) → IsCircuit c → AreGood c big small values rows → node < node_count c → Encrypts big (node_row c rows node) (clear_value c values node) c.width (bound_of_node c node)
+node_noise laws c big small values rows node is good lt =
     let error : ℕ = c.params.glwe.error in
     let number : length rows ≡ length c.inputs = stand_number big c.width error rows values good.inputs ∙ sym (range_number c.inputs values good.ranges) in
     let by_key : length big ≡ dimension c.params = good.key.big_length in
@@ -115,7 +114,7 @@ node_noise laws c big small values rows node is long good lt =
     (λ e. stand_at big c.width error rows values node good.inputs (omega (arith, number, ltb-true node (length c.inputs) e)))
     (λ e. let past : length c.inputs ≤ node = ltb-false node (length c.inputs) e in
     subst (λ dim. Encrypts big (sum_row dim c.width rows (sum_at c node)) (value_of_sum values (sum_at c node)) c.width (bound_of_sum c.params (sum_at c node))) by_key
-    (sum_noise laws big c.width error rows values (sum_at c node) good.inputs (subst (λ dim. All (λ row. length row ≡ dim + 1) rows) (sym by_key) long) (subst (λ n. IsSum n (sum_at c node)) (sym number) (sum_is c node is lt past))))
+    (sum_noise laws big c.width error rows values (sum_at c node) good.inputs (subst (λ n. IsSum n (sum_at c node)) (sym number) (sum_is c node is lt past))))
 
 -- ---- ranges
 
@@ -137,21 +136,23 @@ span_below lo hi limit some span = omega (arith, ints, span)
 from_least : (lo value : ℤ) (offset : ℕ) → pos offset ≡ (value -ℤ lo) → (lo +ℤ pos offset) ≡ value
 from_least lo value offset e = omega (arith, ints, e)
 
-output_right : CiphertextLaws → (c : Circuit) (big small : List Bool) (values : List ℤ) (rows : List (List ℕ)) (o : Out) → IsCircuit c → All (λ row. length row ≡ dimension c.params + 1) rows → AreGood c big small values rows → IsOut c o → IsRight big c.width (bound_of_node c o.node) o.range.lo (node_row c rows o.node) (clear_value c values o.node)
-output_right laws c big small values rows o is long good out =
+output_right : CiphertextLaws → (c : Circuit) (big small : List Bool) (values : List ℤ) (rows : List (List ℕ)) (o : Out) → IsCircuit c → AreGood c big small values rows → IsOut c o → IsRight big c.width (bound_of_node c o.node) o.range (node_row c rows o.node) (clear_value c values o.node)
+output_right laws c big small values rows o is good out =
     let value : ℤ = clear_value c values o.node in
-    let stands = node_noise laws c big small values rows o.node is long good out.node in
+    let stands = node_noise laws c big small values rows o.node is good out.node in
     let inside : IsIn o.range value = subst (λ (range : Range). IsIn range value) (sym out.same) (node_range c values o.node is good.ranges out.node) in
     record {
       stands = stands;
-      decodes = from_least o.range.lo value _ (laws.decoding.decoded_encrypted big (node_row c rows o.node) c.width (bound_of_node c o.node) o.range.lo o.range.hi value (omega (arith, is.width_high)) stands out.bound inside.least inside.most
-          (span_below o.range.lo o.range.hi (2 ^ c.width) (pow_pos c.width) out.span));
+      inside = inside;
+      decodes = from_least o.range.lo value _ (laws.decoding.decoded_encrypted big (node_row c rows o.node) c.width (bound_of_node c o.node) o.range.lo o.range.hi value
+          (record { width_high = omega (arith, is.width_high); least = inside.least; most = inside.most; room = span_below o.range.lo o.range.hi (2 ^ c.width) (pow_pos c.width) out.span })
+          stands out.bound);
     }
 
-outputs_right : CiphertextLaws → (c : Circuit) (big small : List Bool) (values : List ℤ) (rows : List (List ℕ)) (outs : List Out) → IsCircuit c → All (λ row. length row ≡ dimension c.params + 1) rows → AreGood c big small values rows → AllByRecursion (IsOut c) outs → AreRight c big outs (map (λ o. node_row c rows o.node) outs) (map (λ o. clear_value c values o.node) outs)
-outputs_right laws c big small values rows [] is long good are = tt
-outputs_right laws c big small values rows (o ∷ os) is long good are =
-    (output_right laws c big small values rows o is long good are.0, outputs_right laws c big small values rows os is long good are.1)
+outputs_right : CiphertextLaws → (c : Circuit) (big small : List Bool) (values : List ℤ) (rows : List (List ℕ)) (outs : List Out) → IsCircuit c → AreGood c big small values rows → AllByRecursion (IsOut c) outs → AreRight c big outs (map (λ o. node_row c rows o.node) outs) (map (λ o. clear_value c values o.node) outs)
+outputs_right laws c big small values rows [] is good are = tt
+outputs_right laws c big small values rows (o ∷ os) is good are =
+    (output_right laws c big small values rows o is good are.0, outputs_right laws c big small values rows os is good are.1)
 
 pub evaluation : CiphertextLaws → EvaluationLaws
 evaluation laws = record {
@@ -159,5 +160,5 @@ evaluation laws = record {
   node_range = node_range;
   output_lengths = outputs_long;
   output_words = words-output_rows;
-  outputs_right = λ c big small values rows is long good. outputs_right laws c big small values rows c.outs is long good (recursion_from_All (IsOut c) c.outs is.outs);
+  outputs_right = λ c big small values rows is good. outputs_right laws c big small values rows c.outs is good (recursion_from_All (IsOut c) c.outs is.outs);
 }

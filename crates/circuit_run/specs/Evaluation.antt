@@ -4,7 +4,7 @@ use Rattle.std.specs.List.{slice_index_or}
 use Rattle.word_ring.specs.Rows.{combined}
 use Rattle.word_ring.specs.Signed.{word_of}
 use Rattle.lwe_core.specs.Decoding.{encoded}
-use Rattle.lwe_core.specs.Noise.{with_message}
+use Rattle.lwe_core.specs.Phase.{with_message}
 use Rattle.circuit_file.specs.declared.circuit.Term.{Term}
 use Rattle.circuit_file.specs.declared.circuit.WeightedSum.{WeightedSum}
 use Rattle.circuit_file.specs.declared.circuit.Circuit.{Circuit}

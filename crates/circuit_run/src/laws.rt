@@ -2,16 +2,13 @@
 
 ghost use Rattle.circuit_run.specs.Noise.{EvaluationLaws};
 
-use lwe_core::{decoding_laws, noise_laws};
-use word_ring::row_laws;
-
 /// For each secret key of the circuit's dimensions, all values in the input ranges and all inputs that stand for
 /// them within the error of fresh ciphertexts, each node stands for its value within its bound, and each output
 /// decodes to its value (worst cases, where Bergerat et al. 2023 take variances).
-pub fn evaluation_laws()
+#[inline]
+pub fn laws()
     ensures { EvaluationLaws }
 {
-    noise_laws();
-    decoding_laws();
-    row_laws();
+    lwe_core::laws::laws();
+    word_ring::row_laws();
 }

@@ -4,9 +4,8 @@
 #![tactic(auto)]
 
 mod evaluation;
-mod laws;
+pub mod laws;
 #[cfg(test)]
 mod tests;
 
 pub use evaluation::outputs_of;
-pub use laws::evaluation_laws;

@@ -1,6 +1,6 @@
 ghost use Rattle.std.specs.Prelude.{◌≡◌, IfOk, length};
 
-use crate::{evaluation_laws, outputs_of};
+use crate::{laws, outputs_of};
 use circuit_file::{dimension, read_circuit};
 use lwe_core::{Big, Lwe, LweKey, decode, phase};
 use std::alloc::{AllocError, Global};
@@ -30,7 +30,7 @@ fn ciphertext(alloc: Global, first: u64, second: u64, body: u64) -> Result<Lwe<B
 
 #[test]
 fn outputs_decrypt_to_their_values(rt: HostRuntime) -> Result<(), Fail> {
-    evaluation_laws();
+    laws::laws();
     let alloc = rt.alloc();
     let Ok(circuit) = read_circuit(alloc, CIRCUIT.as_bytes()) else {
         panic!(rt; "no circuit");

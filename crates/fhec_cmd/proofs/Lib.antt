@@ -1,4 +1,6 @@
 pub mod StepLemmas
-pub mod RunLemmas
+pub mod ReadLemmas
+pub mod LeaveLemmas
 pub mod OutputLemmas
 pub mod HeadlineLemmas
+pub mod WordLemmas

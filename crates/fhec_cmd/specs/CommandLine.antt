@@ -27,7 +27,9 @@ is_no_eval word = bytes_eq word (codes "-")
 
 -- the files that `run` names; the word `-` for EVAL is no file
 abbrev pub run_files : RunWords → List Bytes
-run_files words = if is_no_eval words.eval then words.circuit ∷ words.cipher ∷ words.output ∷ [] else words.circuit ∷ words.eval ∷ words.cipher ∷ words.output ∷ []
+run_files words =
+    if is_no_eval words.eval then words.circuit ∷ words.cipher ∷ words.output ∷ []
+    else words.circuit ∷ words.eval ∷ words.cipher ∷ words.output ∷ []
 
 -- the words after `run`
 abbrev pub run_of : List Bytes → Request

@@ -6,7 +6,8 @@ use Rattle.fhec_cmd.specs.CommandLine.{RunWords, Request, faulty, run}
 
 -- the words of `run`
 abbrev pub run_view : RunNames → RunWords
-run_view names = record { circuit = names.circuit.now; eval = names.eval.now; cipher = names.cipher.now; output = names.output.now }
+run_view names =
+    record { circuit = names.circuit.now; eval = names.eval.now; cipher = names.cipher.now; output = names.output.now }
 
 -- the request of a command line
 abbrev pub request_view : CommandLine → Request

@@ -4,6 +4,7 @@ pub mod CommandLine
 pub mod CommandView
 pub mod StatusLine
 pub mod Outcome
+pub mod Refusals
 pub mod Run
 pub mod Commands
 pub mod Outside

@@ -1,61 +1,62 @@
 -- What a command does over the files as they are when it begins.
-use Rattle.std.specs.Prelude.{ℕ, Bool, nat_lt, List, [], ◌∷◌, length, Option, Some, None, Result, Ok, Err, if◌then◌else◌}
+use Rattle.std.specs.Prelude.{ℕ, nat_lt, List, [], ◌∷◌, length, Option, Some, None, Result, Ok, Err, if◌then◌else◌}
 use Rattle.std.specs.FinMap.{get, insert}
+use Rattle.refusals.specs.Reading.{◌>>=◌}
 use Rattle.port_store.specs.Files.{Bytes, Files}
+use Rattle.fhec_cmd.specs.declared.fault.Fault.{Fault}
+use Rattle.fhec_cmd.specs.declared.fault.Fault.TheVariants as fault
 use Rattle.fhec_cmd.specs.declared.status.Status.{Status}
 use Rattle.fhec_cmd.specs.declared.status.Status.TheVariants as status
-use Rattle.fhec_cmd.specs.declared.status.LimitName.TheVariants as limit
+use Rattle.fhec_cmd.specs.declared.fault.LimitName.TheVariants as limit
 
 -- a file that is written, whole
 pub record FileWrite : Type 0 where
   pub name : Bytes
   pub bytes : Bytes
 
--- the answer, the files that are written, in order, and the bytes that are put
+-- the answer, the files that are written, in order, and the bytes that are put, where the sink is touched
 pub record Outcome : Type 0 where
   pub answer : Status
   pub writes : List FileWrite
-  pub puts : Bytes
+  pub puts : Option Bytes
 
--- an answer before anything is written
+-- what a fault is answered with
+abbrev pub answer_of : Fault → Status
+answer_of fault.Usage = status.Usage
+answer_of (fault.Circuit f) = status.Circuit f
+answer_of (fault.File kind f) = status.File kind f
+answer_of (fault.Limit f) = status.Limit f
+answer_of fault.Missing = status.Read
+
+-- an answer before anything is written or put
 abbrev pub refusing : Status → Outcome
-refusing answer = record { answer = answer; writes = []; puts = [] }
+refusing answer = record { answer = answer; writes = []; puts = None }
 
--- the command was done, and wrote and put this
-abbrev pub finished : List FileWrite → Bytes → Outcome
-finished writes puts = record { answer = status.Ok; writes = writes; puts = puts }
+-- the command was done, and wrote one file
+abbrev pub wrote : Bytes → Bytes → Outcome
+wrote name bytes = record { answer = status.Ok; writes = record { name = name; bytes = bytes } ∷ []; puts = None }
 
--- the outcome, or the refusal that came first
-abbrev pub outcome_from : Result Outcome Status → Outcome
-outcome_from (Ok outcome) = outcome
-outcome_from (Err answer) = refusing answer
+-- the outcome of what was computed, or of the fault that came first
+abbrev pub outcome_from : {A : Type 0} → (A → Outcome) → Result A Fault → Outcome
+outcome_from outcome (Ok value) = outcome value
+outcome_from outcome (Err f) = refusing (answer_of f)
 
-infixl 10 ◌>>=◌
--- goes on with the value, where nothing refused
-abbrev pub ◌>>=◌ : {A B : Type 0} → Result A Status → (A → Result B Status) → Result B Status
-(Ok value) >>= next = next value
-(Err answer) >>= next = Err answer
-
--- the refusal, unless the test holds
-abbrev pub unless : Bool → Status → Result (Unit {0}) Status
-unless test answer = if test then Ok tt else Err answer
-
--- the value, or the refusal where there is none
-abbrev pub found : {A : Type 0} → Status → Option A → Result A Status
-found answer None = Err answer
-found answer (Some value) = Ok value
+-- a value, or its fault as one of a command
+abbrev pub as_fault : {A F : Type 0} → (F → Fault) → Result A F → Result A Fault
+as_fault kind (Ok value) = Ok value
+as_fault kind (Err f) = Err (kind f)
 
 -- a file of more bytes than the limit
-abbrev pub too_long : ℕ → ℕ → Status
-too_long count most = status.Limit (record { what = limit.Bytes; count = count; most = most })
+abbrev pub too_long : ℕ → ℕ → Fault
+too_long count most = fault.Limit (record { what = limit.Bytes; count = count; most = most })
 
 -- the bytes of a file that is there, under a limit
-abbrev pub bounded : ℕ → Option Bytes → Result Bytes Status
-bounded most None = Err status.Read
+abbrev pub bounded : ℕ → Option Bytes → Result Bytes Fault
+bounded most None = Err fault.Missing
 bounded most (Some bytes) = if nat_lt most (length bytes) then Err (too_long (length bytes) most) else Ok bytes
 
 -- reading a file under a limit of bytes
-abbrev pub reading : Files → Bytes → ℕ → Result Bytes Status
+abbrev pub reading : Files → Bytes → ℕ → Result Bytes Fault
 reading files name most = bounded most (get files name)
 
 -- the files after all of the writes

@@ -5,10 +5,10 @@ use Rattle.fhec_cmd.specs.declared.status.Status.{Status}
 use Rattle.fhec_cmd.specs.declared.status.Status.TheVariants as status
 use Rattle.circuit_file.specs.declared.fault.CircuitKind.{CircuitKind}
 use Rattle.circuit_file.specs.declared.fault.CircuitKind.TheVariants as circuit_kind
-use Rattle.fhec_cmd.specs.declared.status.FileKind.{FileKind}
-use Rattle.fhec_cmd.specs.declared.status.FileKind.TheVariants as file_kind
-use Rattle.fhec_cmd.specs.declared.status.LimitName.{LimitName}
-use Rattle.fhec_cmd.specs.declared.status.LimitName.TheVariants as limit_name
+use Rattle.fhec_cmd.specs.declared.fault.FileKind.{FileKind}
+use Rattle.fhec_cmd.specs.declared.fault.FileKind.TheVariants as file_kind
+use Rattle.fhec_cmd.specs.declared.fault.LimitName.{LimitName}
+use Rattle.fhec_cmd.specs.declared.fault.LimitName.TheVariants as limit_name
 use Rattle.cipher_files.specs.declared.fault.FileFault.{FileFault}
 use Rattle.cipher_files.specs.declared.fault.FileFault.TheVariants as file_fault
 
@@ -40,9 +40,11 @@ limit_word limit_name.Bytes = codes "bytes"
 abbrev pub line_of : Status → List ℕ
 line_of status.Ok = []
 line_of status.Usage = codes "fhec: usage"
-line_of (status.Circuit fault) = codes "fhec: circuit " ++ (decimal fault.line ++ (codes " " ++ circuit_kind_word fault.kind))
+line_of (status.Circuit fault) =
+    codes "fhec: circuit " ++ (decimal fault.line ++ (codes " " ++ circuit_kind_word fault.kind))
 line_of (status.File kind fault) = codes "fhec: file " ++ (file_kind_word kind ++ (codes " " ++ file_fault_word fault))
-line_of (status.Limit fault) = codes "fhec: limit " ++ (limit_word fault.what ++ (codes " " ++ (decimal fault.count ++ (codes " " ++ decimal fault.most))))
+line_of (status.Limit fault) =
+    codes "fhec: limit " ++ (limit_word fault.what ++ (codes " " ++ (decimal fault.count ++ (codes " " ++ decimal fault.most))))
 line_of status.Read = codes "fhec: read fault"
 line_of status.Write = codes "fhec: write fault"
 line_of status.Memory = codes "fhec: memory"

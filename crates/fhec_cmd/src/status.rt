@@ -1,12 +1,12 @@
 //! What a command answers.
 
 ghost use Rattle.std.specs.Prelude.{◌≡◌};
-ghost use Rattle.fhec_cmd.specs.declared.status.Status.TheVariants.{Memory};
-ghost use Rattle.fhec_cmd.specs.Run.{circuit_answer, cipher_answer};
+ghost use Rattle.fhec_cmd.specs.Outcome.{answer_of};
+ghost use Rattle.fhec_cmd.specs.Refusals.{status_of};
 
-use cipher_files::{FileFault, FileRefusal};
-use circuit_file::{CircuitFault, CircuitRefusal};
-use std::alloc::{AllocError, AllocFailed};
+use crate::fault::{Fault, FileKind, LimitFault, StepRefusal};
+use cipher_files::FileFault;
+use circuit_file::CircuitFault;
 
 /// What a command answers.
 #[derive(Clone, Copy, Debug, PartialEq, Eq)]
@@ -29,61 +29,28 @@ pub enum Status {
     Memory,
 }
 
-/// Which file is refused.
-#[derive(Clone, Copy, Debug, PartialEq, Eq)]
-pub enum FileKind {
-    Cipher,
-}
+impl From<Fault> for Status {
+    ghost from_gives = { λ fault answer. answer ≡ answer_of fault };
 
-/// A counted quantity above its limit.
-#[derive(Clone, Copy, Debug, PartialEq, Eq)]
-pub struct LimitFault {
-    pub what: LimitName,
-    pub count: u128,
-    pub most: u128,
-}
-
-/// What is counted.
-#[derive(Clone, Copy, Debug, PartialEq, Eq)]
-pub enum LimitName {
-    /// The bytes of a file.
-    Bytes,
-}
-
-impl From<AllocError> for Status {
-    ghost from_gives = { λ _ answer. answer ≡ Memory };
-
-    fn from(_error: AllocError) -> Status {
-        Status::Memory
-    }
-}
-
-impl<T: Drop> From<AllocFailed<T>> for Status {
-    ghost from_gives = { λ _ answer. answer ≡ Memory };
-
-    fn from(_error: AllocFailed<T>) -> Status {
-        Status::Memory
-    }
-}
-
-impl From<CircuitRefusal> for Status {
-    ghost from_gives = { λ refusal answer. answer ≡ circuit_answer refusal };
-
-    fn from(refusal: CircuitRefusal) -> Status {
-        match refusal {
-            CircuitRefusal::Fault(fault) => Status::Circuit(fault),
-            CircuitRefusal::Memory => Status::Memory,
+    fn from(fault: Fault) -> Status {
+        match fault {
+            Fault::Usage => Status::Usage,
+            Fault::Circuit(fault) => Status::Circuit(fault),
+            Fault::File(kind, fault) => Status::File(kind, fault),
+            Fault::Limit(fault) => Status::Limit(fault),
+            Fault::Missing => Status::Read,
         }
     }
 }
 
-impl From<FileRefusal> for Status {
-    ghost from_gives = { λ refusal answer. answer ≡ cipher_answer refusal };
+impl From<StepRefusal> for Status {
+    ghost from_gives = { λ refusal answer. answer ≡ status_of refusal };
 
-    fn from(refusal: FileRefusal) -> Status {
+    fn from(refusal: StepRefusal) -> Status {
         match refusal {
-            FileRefusal::Fault(fault) => Status::File(FileKind::Cipher, fault),
-            FileRefusal::Memory => Status::Memory,
+            StepRefusal::Fault(fault) => Status::from(fault),
+            StepRefusal::Failure => Status::Read,
+            StepRefusal::Memory => Status::Memory,
         }
     }
 }

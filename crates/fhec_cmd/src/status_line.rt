@@ -4,7 +4,8 @@ ghost use Rattle.std.specs.Prelude.{◌≡◌, IfOk};
 ghost use Rattle.std.specs.String.{string_bytes};
 ghost use Rattle.fhec_cmd.specs.StatusLine.{code_of, line_of, circuit_kind_word, file_kind_word, file_fault_word, limit_word};
 
-use crate::status::{FileKind, LimitName, Status};
+use crate::fault::{FileKind, LimitName};
+use crate::status::Status;
 use cipher_files::FileFault;
 use circuit_file::CircuitKind;
 use std::alloc::{AllocError, Global};

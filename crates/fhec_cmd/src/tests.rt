@@ -371,6 +371,8 @@ struct LongFiles {
 impl Store for LongFiles {
     ghost files = { λ _. None };
 
+    ghost shown = { λ _. None };
+
     ghost read_faults = { λ _. 0 };
 
     ghost write_faults = { λ _. 0 };

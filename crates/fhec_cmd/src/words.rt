@@ -2,7 +2,9 @@
 
 ghost use Rattle.std.specs.Prelude.{◌≡◌, map};
 ghost use Rattle.std.specs.String.{string_bytes};
-ghost use Rattle.fhec_cmd.specs.CommandLine.{request_of, run_of as run_request_of, is_no_eval as no_eval_test, are_distinct as distinct_test, run_files};
+ghost use Rattle.std.specs.List.{list_any};
+ghost use Rattle.std.specs.Str.{bytes_eq};
+ghost use Rattle.fhec_cmd.specs.CommandLine.{request_of, run_of, is_no_eval, are_distinct, run_files};
 ghost use Rattle.fhec_cmd.specs.CommandView.{request_view, run_view};
 
 /// A command line.
@@ -24,7 +26,7 @@ pub struct RunNames<'a> {
 
 /// Whether EVAL is the word that stands for no evaluation keys.
 pub fn is_no_eval(word: &str) -> bool
-    ensures { result ≡ no_eval_test word.now }
+    ensures { result ≡ is_no_eval word.now }
 {
     word == "-"
 }
@@ -40,7 +42,7 @@ pub fn parse(words: &[String]) -> CommandLine<'_>
 }
 
 fn run_of(words: &[String]) -> CommandLine<'_>
-    ensures { request_view result ≡ run_request_of (map string_bytes words.now) }
+    ensures { request_view result ≡ run_of (map string_bytes words.now) }
 {
     let [circuit, eval, cipher, output] = words else {
         return CommandLine::Faulty;
@@ -51,7 +53,7 @@ fn run_of(words: &[String]) -> CommandLine<'_>
         cipher: cipher.as_str(),
         output: output.as_str(),
     };
-    if are_distinct(&names) {
+    if are_files_distinct(&names) {
         CommandLine::Run(names)
     } else {
         CommandLine::Faulty
@@ -59,14 +61,32 @@ fn run_of(words: &[String]) -> CommandLine<'_>
 }
 
 /// Whether no two files of the command have one name.
-fn are_distinct(names: &RunNames<'_>) -> bool
-    ensures { result ≡ distinct_test (run_files (run_view names.now)) }
+fn are_files_distinct(names: &RunNames<'_>) -> bool
+    ensures { result ≡ are_distinct (run_files (run_view names.now)) }
 {
-    names.circuit != names.cipher
-        && names.circuit != names.output
-        && names.cipher != names.output
-        && (is_no_eval(names.eval)
-            || (names.circuit != names.eval
-                && names.eval != names.cipher
-                && names.eval != names.output))
+    if is_no_eval(names.eval) {
+        are_distinct(&[names.circuit, names.cipher, names.output])
+    } else {
+        are_distinct(&[names.circuit, names.eval, names.cipher, names.output])
+    }
+}
+
+/// Whether no name stands twice.
+fn are_distinct(names: &[&str]) -> bool
+    ensures { result ≡ are_distinct (map (λ name. name.now) names.now) }
+{
+    match names {
+        [] => true,
+        [name, others @ ..] => !stands_in(name, others) && are_distinct(others),
+    }
+}
+
+/// Whether the name is one of these.
+fn stands_in(name: &str, names: &[&str]) -> bool
+    ensures { result ≡ list_any (bytes_eq name.now) (map (λ other. other.now) names.now) }
+{
+    match names {
+        [] => false,
+        [other, others @ ..] => name == *other || stands_in(name, others),
+    }
 }

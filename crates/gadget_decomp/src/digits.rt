@@ -1,8 +1,8 @@
 //! The digits of one word, and one digit of each coefficient of a polynomial.
 
-ghost use Rattle.std.specs.Prelude.{◌≡◌, ℤ, ◌+◌, ◌-◌, ◌*◌, ◌≤◌, List, length, map, EachIndex, slice_index, slice_index_or, pos};
+ghost use Rattle.std.specs.Prelude.{◌≡◌, ℤ, ◌+◌, ◌-◌, ◌*◌, ◌≤◌, List, length, EachIndex, slice_index, slice_index_or, pos};
 ghost use Rattle.word_ring.specs.Signed.{word_of};
-ghost use Rattle.gadget_decomp.specs.Decomposition.{IsDecomposition, half_weights, digit_of};
+ghost use Rattle.gadget_decomp.specs.Decomposition.{IsDecomposition, half_weights, digit_of, digit_polynomial};
 
 use negacyclic::Poly;
 
@@ -60,8 +60,10 @@ pub fn poly_digit_into(out: &mut Poly, source: &Poly, base: u32, level: u32, t: 
     requires first { 1 ≤ t }
     requires last { t ≤ level }
     requires one_length { length out.old ≡ length source.now }
-    ensures digits { EachIndex out.new (λ k. (digits : List ℤ) × IsDecomposition (slice_index source.now k) base level digits × (slice_index out.new k ≡ word_of (slice_index_or digits (t - 1) (pos 0)))) }
-    ensures words { out.new ≡ map (λ word. word_of (digit_of word base level t)) source.now }
+    ensures digits { EachIndex out.new (λ k. (digits : List ℤ)
+        × IsDecomposition (slice_index source.now k) base level digits
+        × (slice_index out.new k ≡ word_of (slice_index_or digits (t - 1) (pos 0)))) }
+    ensures words { out.new ≡ digit_polynomial base level t source.now }
 {
     let halves = half_weights(base, level);
     for (at, word) in source.coeffs().iter().enumerate() {

@@ -4,7 +4,7 @@
 #![tactic(auto)]
 
 mod digits;
-mod laws;
+pub mod laws;
 #[cfg(test)]
 mod tests;
 

@@ -1,3 +1,4 @@
+use crate::laws::laws;
 use crate::{decomposition_laws, digit_laws, digits_into, poly_digit_into};
 use negacyclic::Poly;
 use std::test::Fail;
@@ -73,7 +74,8 @@ fn digits_of_polynomials(rt: HostRuntime) -> Result<(), Fail> {
 }
 
 #[test]
-fn laws_are_free(rt: HostRuntime) {
+fn laws_are_free() {
+    laws();
     decomposition_laws();
     digit_laws();
 }

@@ -53,16 +53,20 @@ pub trait Level {
         ensures { result ≡ type_of op.now };
 
     /// The operands that are put are those that are read.
-    ghost put_is_read: { (op : Self.Op) (list : List ℕ) → length list ≡ length (operands op) → operands (with_operands op list) ≡ list };
+    ghost put_is_read: { (op : Self.Op) (list : List ℕ) → length list ≡ length (operands op)
+        → operands (with_operands op list) ≡ list };
 
     /// To put the operands that are there changes nothing.
     ghost own_put_is_same: { (op : Self.Op) → with_operands op (operands op) ≡ op };
 
     /// Operands that are put leave nothing of those put before.
-    ghost last_put_stays: { (op : Self.Op) (first last : List ℕ) → length first ≡ length (operands op) → length last ≡ length (operands op) → with_operands (with_operands op first) last ≡ with_operands op last };
+    ghost last_put_stays: { (op : Self.Op) (first last : List ℕ) → length first ≡ length (operands op)
+        → length last ≡ length (operands op)
+        → with_operands (with_operands op first) last ≡ with_operands op last };
 
     /// The type of what an operation gives does not hang on its operands.
-    ghost put_keeps_type: { (op : Self.Op) (list : List ℕ) → length list ≡ length (operands op) → type_of (with_operands op list) ≡ type_of op };
+    ghost put_keeps_type: { (op : Self.Op) (list : List ℕ) → length list ≡ length (operands op)
+        → type_of (with_operands op list) ≡ type_of op };
 }
 
 /// An operation that is handed back, since there was no memory for it.
@@ -71,13 +75,12 @@ pub struct Returned<T> {
     pub op: T,
 }
 
-impl<T> From<AllocFailed<(u32, T)>> for Returned<T> {
-    ghost from_gives = { λ failed returned. returned.op ≡ failed.value.1 };
-
-    fn from(failed: AllocFailed<(u32, T)>) -> Returned<T> {
-        let AllocFailed { value: (_, op) } = failed;
-        Returned { op }
-    }
+/// The operation of an entry for which there was no memory.
+fn handed_back<T>(failed: AllocFailed<(u32, T)>) -> Returned<T>
+    ensures { result.op ≡ failed.value.1 }
+{
+    let AllocFailed { value: (_, op) } = failed;
+    Returned { op }
 }
 
 /// Operations of a level in their order, each with its number.
@@ -134,9 +137,13 @@ impl<L: Level> Graph<L> {
         ensures err { OnErr result (self.new ≡ self.old) }
     {
         let number = self.made;
-        self.entries.push((number, op))?;
-        self.made = number + 1;
-        Ok(number)
+        match self.entries.push((number, op)) {
+            Ok(()) => {
+                self.made = number + 1;
+                Ok(number)
+            }
+            Err(failed) => Err(handed_back(failed)),
+        }
     }
 
     /// Adds an operation just before the one with the number `place`, and answers its number. For
@@ -153,9 +160,13 @@ impl<L: Level> Graph<L> {
     {
         let number = self.made;
         let at = walks::find_place(self.entries.as_slice(), place);
-        self.entries.insert(at, (number, op))?;
-        self.made = number + 1;
-        Ok(number)
+        match self.entries.insert(at, (number, op)) {
+            Ok(()) => {
+                self.made = number + 1;
+                Ok(number)
+            }
+            Err(failed) => Err(handed_back(failed)),
+        }
     }
 
     /// Takes away an operation that has no use, and gives it. Its number is not used again.

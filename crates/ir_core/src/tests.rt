@@ -1,52 +1,17 @@
 //! A level of two kinds of operations, and the graph on it.
 
-ghost use Rattle.std.specs.Prelude.{◌≡◌, ◌<◌, length, slice_index, slice_set, IfOk, refl};
+ghost use Rattle.std.specs.Prelude.{◌≡◌, IfOk, refl};
 
 use super::*;
+use lists::List;
 use std::process::Abort;
 use std::test::Fail;
 
-/// A list of operands.
-#[derive(Debug, Drop)]
-struct Operands {
-    items: Vec<u32>,
-}
-
-impl Model for Operands {
-    ghost use Rattle.std.specs.Prelude.{ℕ, List};
-
-    ghost Value = { List ℕ };
-
-    ghost view = { λ a. a.items.items };
-}
-
-impl Operands {
-    fn from_slice(alloc: Global, items: &[u32]) -> Result<Operands, AllocError>
-        ensures { IfOk result (λ operands. operands ≡ items.now) }
-    {
-        let items = Vec::from_slice(alloc, items)?;
-        Ok(Operands { items })
-    }
-
-    fn len(&self) -> usize
-        ensures { result ≡ length self.now }
-    {
-        self.items.len()
-    }
-
-    fn get(&self, at: usize) -> u32
-        requires { at < length self.now }
-        ensures { result ≡ slice_index self.now at }
-    {
-        self.items[at]
-    }
-
-    fn set(&mut self, at: usize, value: u32)
-        requires { at < length self.old }
-        ensures { self.new ≡ slice_set self.old at value }
-    {
-        self.items[at] = value;
-    }
+/// The operands, in memory of their own.
+fn list_of(alloc: Global, operands: &[u32]) -> Result<List<u32>, AllocError>
+    ensures { IfOk result (λ list. list ≡ operands.now) }
+{
+    Ok(List::from_vec(Vec::from_slice(alloc, operands)?))
 }
 
 /// What an operation does, beside its operands.
@@ -60,7 +25,7 @@ enum Kind {
 #[derive(Debug, Drop)]
 struct TestOp {
     kind: Kind,
-    operands: Operands,
+    operands: List<u32>,
 }
 
 /// The test level.
@@ -82,7 +47,7 @@ impl Level for TestLevel {
     }
 
     fn operand(op: &TestOp, at: usize) -> u32 {
-        op.operands.get(at)
+        op.operands.as_slice()[at]
     }
 
     fn set_operand(op: &mut TestOp, at: usize, value: u32) {
@@ -114,7 +79,7 @@ fn push(
     }
     assert!(rt; operands.len() < 10);
     assert!(rt; graph.made() < 100);
-    let operands = Operands::from_slice(rt.alloc(), operands)?;
+    let operands = list_of(rt.alloc(), operands)?;
     let number = graph.push(TestOp { kind, operands })?;
     Ok(number)
 }
@@ -133,7 +98,7 @@ fn insert_before(
     }
     assert!(rt; operands.len() < 10);
     assert!(rt; graph.made() < 100);
-    let operands = Operands::from_slice(rt.alloc(), operands)?;
+    let operands = list_of(rt.alloc(), operands)?;
     let number = graph.insert_before(
         place,
         TestOp {
@@ -237,7 +202,7 @@ fn list_of_leaves_and_adds(rt: HostRuntime) -> Result<(), Fail> {
     expect_operands(&rt, &graph, 3, &[0, 0]);
 
     let erased = erase(&rt, &mut graph, 2);
-    assert_eq!(rt; erased.operands.items.as_slice(), [0, 1].as_slice());
+    assert_eq!(rt; erased.operands.as_slice(), [0, 1].as_slice());
     assert_eq!(rt; TestLevel::result(&erased), Kind::Add);
     expect_numbers(&rt, &graph, &[0, 1, 3])?;
     expect_uses(&rt, &graph, 0, &[(3, 0), (3, 1)])?;

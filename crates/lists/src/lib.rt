@@ -1,7 +1,7 @@
 //! A list that contracts see as the list of its elements.
 #![tactic(auto)]
 
-ghost use Rattle.std.specs.Prelude.{◌≡◌, ◌==◌, length};
+ghost use Rattle.std.specs.Prelude.{◌≡◌, ◌==◌, ◌<◌, length, slice_set};
 
 use std::marker::Model;
 
@@ -59,6 +59,16 @@ impl<T> List<T> {
         ensures { result ≡ (length self.now == 0) }
     {
         self.elements.is_empty()
+    }
+}
+
+impl<T: Drop> List<T> {
+    /// Puts an element at a place, in place of the one that stands there.
+    pub fn set(&mut self, at: usize, element: T)
+        requires { at < length self.old }
+        ensures { self.new ≡ slice_set self.old at element }
+    {
+        self.elements[at] = element;
     }
 }
 

@@ -1,16 +1,17 @@
 -- Decoding undoes a small error.
-use Rattle.std.proofs.Common.{◌≡◌, ℕ, ◌+◌, ◌-◌, ◌*◌, ◌/◌, ◌%◌, ◌^◌, ◌<◌, ◌≤◌, ℤ, pos, ◌+ℤ◌, ◌-ℤ◌, ◌*ℤ◌, ◌≤ℤ◌, ◌<ℤ◌, arith, ap, sym, subst, ◌∙◌, refl}
+use Rattle.std.proofs.Common.{◌≡◌, ℕ, ◌+◌, ◌-◌, ◌*◌, ◌/◌, ◌%◌, ◌^◌, ◌<◌, ◌≤◌, ℤ, pos, ◌+ℤ◌, ◌-ℤ◌, ◌*ℤ◌, ◌≤ℤ◌, arith, ap, sym, subst, ◌∙◌, refl}
 use lib.IntN.{negsuc}
 use Rattle.std.specs.Int.RustNames.{unsigned_abs}
 use Rattle.std.proofs.Math.Nat.{add-mul}
-use Rattle.std.proofs.lemmas.Int.{ints, int_rem_euclid_is}
+use Rattle.std.proofs.lemmas.Int.{ints}
 use Rattle.std.proofs.lemmas.Nat.{div-mul-add, pow-add}
 use Rattle.word_ring.specs.Words.{size, SizeLaws}
 use Rattle.word_ring.specs.Signed.{word_of, SignedLaws}
 use Rattle.lwe_core.specs.Phase.{phase_of}
 use Rattle.lwe_core.specs.Decoding.{decoded}
 use Rattle.lwe_core.proofs.DecodingParts.{offset_below}
-use Rattle.lwe_core.specs.Encrypts.{centred_error, DecodingLaws}
+use Rattle.lwe_core.specs.Encrypts.{centred_error}
+use Rattle.lwe_core.specs.Laws.{IsInRoom, DecodingLaws}
 
 -- the word of a number and a natural one
 word_of-plus : SignedLaws → (z : ℤ) (b : ℕ) → word_of (z +ℤ pos b) ≡ (word_of z + b) % 2 ^ 64
@@ -78,18 +79,18 @@ near sizes signed phase width n lo value fits gap below small =
     let apart : (e + (n * s + h)) % 2 ^ 64 ≡ n * s + (e + h) % 2 ^ 64 = no_wrap e h (n * s) short close (omega (arith, twice, room)) in
     ap (λ x. x / s) (over ∙ apart) ∙ div-mul-add n s ((e + h) % 2 ^ 64) (omega (arith, twice, left_over e h short close))
 
-near_value : SizeLaws → SignedLaws → (phase width : ℕ) (lo hi value : ℤ) → width ≤ 62 → unsigned_abs (centred_error phase value width) < 2 ^ (62 - width) → lo ≤ℤ value → value ≤ℤ hi → (hi -ℤ lo) <ℤ pos (2 ^ width) → pos (decoded phase width lo) ≡ (value -ℤ lo)
-near_value sizes signed phase width lo hi value fits small least most few =
+near_value : SizeLaws → SignedLaws → (phase width : ℕ) (lo hi value : ℤ) → IsInRoom width lo hi value → unsigned_abs (centred_error phase value width) < 2 ^ (62 - width) → pos (decoded phase width lo) ≡ (value -ℤ lo)
+near_value sizes signed phase width lo hi value inside small =
     let n : ℕ = unsigned_abs (value -ℤ lo) in
-    let is : value -ℤ lo ≡ pos n = not_negative (value -ℤ lo) (omega (arith, ints, least)) in
+    let is : value -ℤ lo ≡ pos n = not_negative (value -ℤ lo) (omega (arith, ints, inside.least)) in
     let gap : value ≡ lo +ℤ pos n = omega (arith, ints, is) in
-    let below : n < 2 ^ width = omega (arith, ints, is, most, few) in
-    ap pos (near sizes signed phase width n lo value fits gap below small) ∙ sym is
+    let below : n < 2 ^ width = omega (arith, ints, is, inside.most, inside.room) in
+    ap pos (near sizes signed phase width n lo value inside.width_high gap below small) ∙ sym is
 
 pub laws : SizeLaws → SignedLaws → DecodingLaws
 laws sizes signed = record {
   decoded_near = near_value sizes signed;
   decoded_below = λ phase width lo fits. offset_below _ width (signed.number_word ((pos phase -ℤ lo *ℤ pos (2 ^ (63 - width))) +ℤ pos (2 ^ (62 - width)))) fits;
-  decoded_encrypted = λ bits words width bound lo hi value fits stands small least most few.
-      near_value sizes signed (phase_of bits words) width lo hi value fits (omega (arith, stands, small)) least most few;
+  decoded_encrypted = λ bits words width bound lo hi value inside stands small.
+      near_value sizes signed (phase_of bits words) width lo hi value inside (omega (arith, stands.near, small));
 }

@@ -17,10 +17,10 @@ word_of-offset signed a s h lo =
     ∙ ap (λ n. word_sum n (word_of (pos h))) (signed.difference_word (pos a) (lo *ℤ pos s))
     ∙ offset_residues a s h (word_of (pos a)) (word_of (lo *ℤ pos s)) (word_of (pos h)) (word_product (word_of lo) s) (signed.natural_word a) (ap (λ n. n % 2 ^ 64) (place ∙ mul-mod_second (word_of lo) s (2 ^ 64))) (signed.natural_word h)
 
--- the steps of the code give the offset
-pub decoded_is : SignedLaws → (phase width half least distance placed : ℕ) (lo : ℤ) → half ≡ 2 ^ (62 - width) → least ≡ encoded width lo → distance ≡ word_difference phase least → placed ≡ word_sum distance half → placed / 2 ^ (63 - width) ≡ decoded phase width lo
-decoded_is signed phase width half least distance placed lo half_is least_is distance_is placed_is =
-    ap (λ x. x / 2 ^ (63 - width)) (rw (placed_is, distance_is, least_is, half_is) (sym (word_of-offset signed phase (2 ^ (63 - width)) (2 ^ (62 - width)) lo)))
+-- the distance of the code, by whole steps, is the offset
+pub decoded_is : SignedLaws → (phase width past : ℕ) (lo : ℤ) → past ≡ word_sum (word_difference phase (encoded width lo)) (2 ^ (62 - width)) → past / 2 ^ (63 - width) ≡ decoded phase width lo
+decoded_is signed phase width past lo past_is =
+    ap (λ x. x / 2 ^ (63 - width)) (past_is ∙ sym (word_of-offset signed phase (2 ^ (63 - width)) (2 ^ (62 - width)) lo))
 
 -- an offset is below 2^(width + 1)
 pub offset_below : (x width : ℕ) → x < 2 ^ 64 → width ≤ 62 → x / 2 ^ (63 - width) < 2 ^ (width + 1)

@@ -1,6 +1,9 @@
 pub mod PhaseParts
 pub mod DecodingParts
 pub mod PhaseLinear
+pub mod PhaseBodies
+pub mod PhaseSums
+pub mod Ones
 pub mod DecodingNear
 pub mod NoiseParts
 pub mod Examples

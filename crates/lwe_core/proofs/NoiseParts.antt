@@ -1,22 +1,24 @@
 -- The noise of sums, differences and multiples.
-use Rattle.std.proofs.Common.{◌≡◌, ℕ, ◌+◌, ◌*◌, ◌%◌, ◌^◌, ◌<◌, ◌≤◌, ℤ, pos, ◌+ℤ◌, ◌-ℤ◌, ◌*ℤ◌, Bool, true, false, cond, List, [], ◌∷◌, length, replicate, get_or, set, arith, ap, sym, subst, ◌∙◌, refl}
-use Prim.Native.Nat.{zero, suc}
+use Rattle.std.proofs.Common.{◌≡◌, ℕ, ◌+◌, ◌*◌, ◌%◌, ◌^◌, ◌<◌, ◌≤◌, ℤ, pos, ◌+ℤ◌, ◌-ℤ◌, ◌*ℤ◌, Bool, List, length, arith, ap, sym, subst, ◌∙◌, refl}
 use Rattle.std.specs.Int.RustNames.{unsigned_abs}
 use Rattle.std.proofs.Math.Nat.{mod-mod, mul-le-mul}
 use Rattle.std.proofs.lemmas.Int.{ints}
 use Rattle.std.proofs.lemmas.Nat.{mul-mod_second}
-use Rattle.std.proofs.lemmas.List.{get_or-set_same, get_or-replicate}
+use Rattle.std.proofs.lemmas.List.{length-map, length-set, length-replicate}
 use Rattle.word_ring.specs.Words.{word_sum, word_difference, word_product, size, RingLaws, SizeLaws}
+use Rattle.word_ring.specs.Rows.{zip_words, row_sum, row_difference, scaled_row, sum_with_scaled, RowLaws}
 use Rattle.word_ring.specs.Signed.{word_of, SignedLaws}
-use Rattle.lwe_core.specs.Phase.{masked_sum, phase_of, PhaseLaws}
+use Rattle.lwe_core.specs.Phase.{FitsKey, phase_of, with_message}
 use Rattle.lwe_core.specs.Decoding.{value_step, encoded}
 use Rattle.lwe_core.specs.Encrypts.{centred_error, Encrypts}
-use Rattle.lwe_core.specs.Noise.{with_message, NoiseLaws}
-use Rattle.lwe_core.proofs.PhaseLinear.{masked-cons, multiple_parts}
+use Rattle.lwe_core.specs.Laws.{PhaseLaws, NoiseLaws}
+use Rattle.lwe_core.proofs.PhaseLinear.{multiple_parts}
+use Rattle.lwe_core.proofs.PhaseBodies.{phase-message, phase-zeros}
 
 -- the laws of words
 pub record WordLaws : Type 0 where
   pub ring : RingLaws
+  pub rows : RowLaws
   pub sizes : SizeLaws
   pub signed : SignedLaws
 
@@ -58,10 +60,21 @@ abbrev Gap : List Bool → List ℕ → ℤ → ℕ → ℕ
 Gap bits xs v width = word_difference (phase_of bits xs) (encoded width v)
 
 within : WordLaws → (bits : List Bool) (xs : List ℕ) (v : ℤ) (width bound : ℕ) → Encrypts bits xs v width bound → size (Gap bits xs v width) ≤ bound
-within words bits xs v width bound is = subst (λ n. n ≤ bound) (error_size words (phase_of bits xs) width v) is
+within words bits xs v width bound is = subst (λ n. n ≤ bound) (error_size words (phase_of bits xs) width v) is.near
 
-stands : WordLaws → (bits : List Bool) (xs : List ℕ) (v : ℤ) (width bound gap : ℕ) → Gap bits xs v width ≡ gap → size gap ≤ bound → Encrypts bits xs v width bound
-stands words bits xs v width bound gap e small = subst (λ n. n ≤ bound) (sym (error_size words (phase_of bits xs) width v ∙ ap size e)) small
+stands : WordLaws → (bits : List Bool) (xs : List ℕ) (v : ℤ) (width bound gap : ℕ) → FitsKey bits xs → Gap bits xs v width ≡ gap → size gap ≤ bound → Encrypts bits xs v width bound
+stands words bits xs v width bound gap fits e small = record {
+  fits = fits;
+  near = subst (λ n. n ≤ bound) (sym (error_size words (phase_of bits xs) width v ∙ ap size e)) small;
+}
+
+-- ---- lengths
+
+fits-zip : RowLaws → (f : ℕ → ℕ → ℕ) (bits : List Bool) (xs ys : List ℕ) → FitsKey bits xs → FitsKey bits ys → FitsKey bits (zip_words f xs ys)
+fits-zip rows f bits xs ys p q = omega (arith, rows.zip_length f xs ys)
+
+fits-scaled : (f : ℕ) (bits : List Bool) (xs : List ℕ) → FitsKey bits xs → FitsKey bits (scaled_row f xs)
+fits-scaled f bits xs p = length-map xs (word_product f) ∙ p
 
 -- ---- gaps of sums, differences and multiples
 
@@ -89,66 +102,56 @@ multiple_small words f a bound p = le_trans _ _ _ (words.sizes.size_product (wor
 
 -- ---- adding a word to the body
 
-masked-set : (bits : List Bool) (xs : List ℕ) (word : ℕ) → masked_sum bits (set xs (length bits) word) ≡ masked_sum bits xs
-masked-set [] xs word = refl
-masked-set (b ∷ bs) [] word = refl
-masked-set (b ∷ bs) (x ∷ xs) word = masked-cons b bs x (set xs (length bs) word) ∙ ap (λ n. cond b x 0 + n) (masked-set bs xs word) ∙ sym (masked-cons b bs x xs)
-
-message_parts : (body mask message : ℕ) → word_difference (word_sum body message) mask ≡ word_sum (word_difference body mask) message
-message_parts body mask message = omega arith
-
-phase-message : (bits : List Bool) (xs : List ℕ) (message : ℕ) → length xs ≡ length bits + 1 → phase_of bits (with_message (length bits) xs message) ≡ word_sum (phase_of bits xs) message
-phase-message bits xs message long =
-    let n : ℕ = length bits in
-    let body : ℕ = get_or xs n 0 in
-    ap (λ b. word_difference b (masked_sum bits (with_message n xs message))) (get_or-set_same xs n (word_sum body message) 0 (omega arith))
-    ∙ ap (word_difference (word_sum body message)) (masked-set bits xs (word_sum body message))
-    ∙ message_parts body (masked_sum bits xs) message
-
 message_gap : (p a m : ℕ) → word_difference (word_sum p m) (word_sum a m) ≡ word_difference p a
 message_gap p a m = omega arith
 
--- ---- the ciphertext of zeros
+-- ---- another phase
 
-masked_zeros : (bits : List Bool) (n : ℕ) → masked_sum bits (replicate n 0) ≡ 0
-masked_zeros [] n = refl
-masked_zeros (b ∷ bs) zero = refl
-masked_zeros (true ∷ bs) (suc n) = omega (arith, masked-cons true bs 0 (replicate n 0), masked_zeros bs n)
-masked_zeros (false ∷ bs) (suc n) = omega (arith, masked-cons false bs 0 (replicate n 0), masked_zeros bs n)
+moved_gap : (q p a : ℕ) → word_difference q a ≡ word_sum (word_difference p a) (word_difference q p)
+moved_gap q p a = omega arith
+
+-- ---- the ciphertext of zeros
 
 zero_gap : (b m : ℕ) → b ≡ 0 → m ≡ 0 → word_difference b m ≡ 0
 zero_gap b m p q = omega arith
-
-phase-zeros : (bits : List Bool) → phase_of bits (replicate (length bits + 1) 0) ≡ 0
-phase-zeros bits = zero_gap _ _ (get_or-replicate (length bits + 1) (length bits) 0 0 (omega arith)) (masked_zeros bits (length bits + 1))
 
 encoded_zero : WordLaws → (width : ℕ) → encoded width (pos 0) ≡ 0
 encoded_zero words width = ap (λ w. word_product w (value_step width)) (words.signed.natural_word 0) ∙ omega arith
 
 pub laws : PhaseLaws → WordLaws → NoiseLaws
 laws phases words = record {
-  encrypts_zero = λ bits width. stands words bits _ (pos 0) width 0 0 (zero_gap _ _ (phase-zeros bits) (encoded_zero words width)) (omega arith);
-  encrypts_wider = λ bits xs u width bound wider is more. omega (arith, is, more);
-  encrypts_sum = λ bits xs ys u v width bound more long also is other.
-      stands words bits _ (u +ℤ v) width (bound + more) (word_sum (Gap bits xs u width) (Gap bits ys v width))
-      (rw (phases.phase_sum bits xs ys long also, encoded-sum words width u v) (sum_gap (phase_of bits xs) (phase_of bits ys) (encoded width u) (encoded width v)))
+  error_size = λ phase width v. error_size words phase width v;
+  encrypts_zero = λ bits width. stands words bits _ (pos 0) width 0 0 (length-replicate {A = ℕ} (length bits + 1) 0) (zero_gap _ _ (phase-zeros bits) (encoded_zero words width)) (omega arith);
+  encrypts_wider = λ bits xs u width bound wider is more. record { fits = is.fits; near = omega (arith, is.near, more) };
+  encrypts_sum = λ bits xs ys u v width bound more is other.
+      stands words bits (row_sum xs ys) (u +ℤ v) width (bound + more) (word_sum (Gap bits xs u width) (Gap bits ys v width))
+      (fits-zip words.rows word_sum bits xs ys is.fits other.fits)
+      (rw (phases.phase_sum bits xs ys is.fits other.fits, encoded-sum words width u v) (sum_gap (phase_of bits xs) (phase_of bits ys) (encoded width u) (encoded width v)))
       (sum_small words _ _ bound more (within words bits xs u width bound is) (within words bits ys v width more other));
-  encrypts_difference = λ bits xs ys u v width bound more long also is other.
-      stands words bits _ (u -ℤ v) width (bound + more) (word_difference (Gap bits xs u width) (Gap bits ys v width))
-      (rw (phases.phase_difference bits xs ys long also, encoded-difference words width u v) (difference_gap (phase_of bits xs) (phase_of bits ys) (encoded width u) (encoded width v)))
+  encrypts_difference = λ bits xs ys u v width bound more is other.
+      stands words bits (row_difference xs ys) (u -ℤ v) width (bound + more) (word_difference (Gap bits xs u width) (Gap bits ys v width))
+      (fits-zip words.rows word_difference bits xs ys is.fits other.fits)
+      (rw (phases.phase_difference bits xs ys is.fits other.fits, encoded-difference words width u v) (difference_gap (phase_of bits xs) (phase_of bits ys) (encoded width u) (encoded width v)))
       (difference_small words _ _ bound more (within words bits xs u width bound is) (within words bits ys v width more other));
-  encrypts_multiple = λ bits xs u f width bound long is.
-      stands words bits _ (f *ℤ u) width (unsigned_abs f * bound) (word_product (word_of f) (Gap bits xs u width))
-      (rw (phases.phase_multiple bits (word_of f) xs long, encoded-multiple words width f u) (multiple_gap (word_of f) (phase_of bits xs) (encoded width u) _ (mod-mod (word_of f * phase_of bits xs) (2 ^ 64))))
+  encrypts_multiple = λ bits xs u f width bound is.
+      stands words bits (scaled_row (word_of f) xs) (f *ℤ u) width (unsigned_abs f * bound) (word_product (word_of f) (Gap bits xs u width))
+      (fits-scaled (word_of f) bits xs is.fits)
+      (rw (phases.phase_multiple bits (word_of f) xs is.fits, encoded-multiple words width f u) (multiple_gap (word_of f) (phase_of bits xs) (encoded width u) _ (mod-mod (word_of f * phase_of bits xs) (2 ^ 64))))
       (multiple_small words f _ bound (within words bits xs u width bound is));
-  encrypts_sum_with_multiple = λ bits xs ys u v f width bound more long also is other.
-      stands words bits _ (u +ℤ f *ℤ v) width (bound + unsigned_abs f * more) (word_sum (Gap bits xs u width) (word_product (word_of f) (Gap bits ys v width)))
-      (rw (phases.phase_sum_with_multiple bits (word_of f) xs ys long also, encoded-sum words width u (f *ℤ v), encoded-multiple words width f v)
+  encrypts_sum_with_multiple = λ bits xs ys u v f width bound more is other.
+      stands words bits (sum_with_scaled xs (word_of f) ys) (u +ℤ f *ℤ v) width (bound + unsigned_abs f * more) (word_sum (Gap bits xs u width) (word_product (word_of f) (Gap bits ys v width)))
+      (fits-zip words.rows (λ x y. word_sum x (word_of f * y)) bits xs ys is.fits other.fits)
+      (rw (phases.phase_sum_with_multiple bits (word_of f) xs ys is.fits other.fits, encoded-sum words width u (f *ℤ v), encoded-multiple words width f v)
       (sum_gap (phase_of bits xs) (word_of f * phase_of bits ys) (encoded width u) (word_product (word_of f) (encoded width v))
       ∙ ap (word_sum (Gap bits xs u width)) (multiple_gap (word_of f) (phase_of bits ys) (encoded width v) _ refl)))
       (sum_small words _ _ bound (unsigned_abs f * more) (within words bits xs u width bound is) (multiple_small words f _ more (within words bits ys v width more other)));
-  encrypts_message = λ bits xs u v width bound long is.
-      stands words bits _ (u +ℤ v) width bound (Gap bits xs u width)
-      (rw (phase-message bits xs (encoded width v) long, encoded-sum words width u v) (message_gap (phase_of bits xs) (encoded width u) (encoded width v)))
+  encrypts_message = λ bits xs u v width bound is.
+      stands words bits (with_message (length bits) xs (encoded width v)) (u +ℤ v) width bound (Gap bits xs u width)
+      (length-set xs (length bits) _ ∙ is.fits)
+      (rw (phase-message bits xs (encoded width v) is.fits, encoded-sum words width u v) (message_gap (phase_of bits xs) (encoded width u) (encoded width v)))
       (within words bits xs u width bound is);
+  encrypts_moved = λ bits others xs ys v width bound more is fits near.
+      stands words others ys v width (bound + more) (word_sum (Gap bits xs v width) (word_difference (phase_of others ys) (phase_of bits xs))) fits
+      (moved_gap (phase_of others ys) (phase_of bits xs) (encoded width v))
+      (sum_small words _ _ bound more (within words bits xs v width bound is) near);
 }

@@ -7,7 +7,7 @@ use Rattle.std.proofs.lemmas.List.{get_or-map}
 use Rattle.std.proofs.lemmas.List.Sums.{sum_by-cons}
 use Rattle.word_ring.specs.Words.{word_sum, word_difference, word_product}
 use Rattle.word_ring.specs.Rows.{row_sum, row_difference, scaled_row, sum_with_scaled, RowLaws}
-use Rattle.lwe_core.specs.Phase.{masked_sum, phase_of, PhaseLaws}
+use Rattle.lwe_core.specs.Phase.{FitsKey, masked_sum, phase_of}
 
 -- the first word of the mask, and the rest
 pub masked-cons : (b : Bool) (bits : List Bool) (x : ℕ) (xs : List ℕ) → masked_sum (b ∷ bits) (x ∷ xs) ≡ cond b x 0 + masked_sum bits xs
@@ -80,20 +80,24 @@ multiple_parts f bx mx b m body mask =
 body_of_multiple : (f : ℕ) (xs : List ℕ) (n : ℕ) → n < length xs → get_or (scaled_row f xs) n 0 ≡ word_product f (get_or xs n 0)
 body_of_multiple f xs n inside = get_or-map (word_product f) xs n 0 0 inside
 
-pub laws : RowLaws → PhaseLaws
-laws rows = record {
-  phase_sum = λ bits xs ys p q.
-      let n : ℕ = length bits in
-      sum_parts (get_or xs n 0) (get_or ys n 0) (masked_sum bits xs) (masked_sum bits ys) _ _ (rows.zip_word word_sum xs ys n (omega arith) (omega arith)) (masked-sum bits xs ys (p ∙ sym q));
-  phase_difference = λ bits xs ys p q.
-      let n : ℕ = length bits in
-      difference_parts (get_or xs n 0) (get_or ys n 0) (masked_sum bits xs) (masked_sum bits ys) _ _ (rows.zip_word word_difference xs ys n (omega arith) (omega arith)) (masked-difference bits xs ys (p ∙ sym q));
-  phase_multiple = λ bits f xs p.
-      let n : ℕ = length bits in
-      multiple_parts f (get_or xs n 0) (masked_sum bits xs) _ _ (let body = body_of_multiple f xs n (omega arith) in omega (arith, body)) (masked-multiple bits f xs);
-  phase_sum_with_multiple = λ bits f xs ys p q.
-      let n : ℕ = length bits in
-      let scaled : word_difference (f * get_or ys n 0) (masked_sum bits (scaled_row f ys)) ≡ word_product f (phase_of bits ys) = multiple_parts f (get_or ys n 0) (masked_sum bits ys) (f * get_or ys n 0) (masked_sum bits (scaled_row f ys)) refl (masked-multiple bits f ys) in
-      sum_parts (get_or xs n 0) (f * get_or ys n 0) (masked_sum bits xs) (masked_sum bits (scaled_row f ys)) _ _ (rows.zip_word (λ x y. word_sum x (f * y)) xs ys n (omega arith) (omega arith)) (masked-sum_with_multiple bits f xs ys (p ∙ sym q))
-      ∙ ap (word_sum (phase_of bits xs)) scaled ∙ omega arith;
-}
+pub phase-sum : RowLaws → (bits : List Bool) (xs ys : List ℕ) → FitsKey bits xs → FitsKey bits ys → phase_of bits (row_sum xs ys) ≡ word_sum (phase_of bits xs) (phase_of bits ys)
+phase-sum rows bits xs ys p q =
+    let n : ℕ = length bits in
+    sum_parts (get_or xs n 0) (get_or ys n 0) (masked_sum bits xs) (masked_sum bits ys) _ _ (rows.zip_word word_sum xs ys n (omega arith) (omega arith)) (masked-sum bits xs ys (p ∙ sym q))
+
+pub phase-difference : RowLaws → (bits : List Bool) (xs ys : List ℕ) → FitsKey bits xs → FitsKey bits ys → phase_of bits (row_difference xs ys) ≡ word_difference (phase_of bits xs) (phase_of bits ys)
+phase-difference rows bits xs ys p q =
+    let n : ℕ = length bits in
+    difference_parts (get_or xs n 0) (get_or ys n 0) (masked_sum bits xs) (masked_sum bits ys) _ _ (rows.zip_word word_difference xs ys n (omega arith) (omega arith)) (masked-difference bits xs ys (p ∙ sym q))
+
+pub phase-multiple : (bits : List Bool) (f : ℕ) (xs : List ℕ) → FitsKey bits xs → phase_of bits (scaled_row f xs) ≡ word_product f (phase_of bits xs)
+phase-multiple bits f xs p =
+    let n : ℕ = length bits in
+    multiple_parts f (get_or xs n 0) (masked_sum bits xs) _ _ (let body = body_of_multiple f xs n (omega arith) in omega (arith, body)) (masked-multiple bits f xs)
+
+pub phase-sum_with_multiple : RowLaws → (bits : List Bool) (f : ℕ) (xs ys : List ℕ) → FitsKey bits xs → FitsKey bits ys → phase_of bits (sum_with_scaled xs f ys) ≡ word_sum (phase_of bits xs) (f * phase_of bits ys)
+phase-sum_with_multiple rows bits f xs ys p q =
+    let n : ℕ = length bits in
+    let scaled : word_difference (f * get_or ys n 0) (masked_sum bits (scaled_row f ys)) ≡ word_product f (phase_of bits ys) = multiple_parts f (get_or ys n 0) (masked_sum bits ys) (f * get_or ys n 0) (masked_sum bits (scaled_row f ys)) refl (masked-multiple bits f ys) in
+    sum_parts (get_or xs n 0) (f * get_or ys n 0) (masked_sum bits xs) (masked_sum bits (scaled_row f ys)) _ _ (rows.zip_word (λ x y. word_sum x (f * y)) xs ys n (omega arith) (omega arith)) (masked-sum_with_multiple bits f xs ys (p ∙ sym q))
+    ∙ ap (word_sum (phase_of bits xs)) scaled ∙ omega arith

@@ -1,5 +1,5 @@
 -- Phases, a bit of the key at a time.
-use Rattle.std.proofs.Common.{◌≡◌, ℕ, ◌+◌, ◌<◌, ◌≤◌, Bool, true, false, cond, List, length, get_or, take, arith, ap, ◌∙◌}
+use Rattle.std.proofs.Common.{◌≡◌, ℕ, ◌+◌, ◌<◌, ◌≤◌, Bool, false, cond, List, length, get_or, take, arith, ap, ◌∙◌}
 use Rattle.std.specs.List.{zip, sum_by}
 use Rattle.std.proofs.lemmas.List.{take_all}
 use Rattle.std.proofs.lemmas.List.Sums.{sum_by_more}
@@ -23,14 +23,6 @@ pub first_masked-all : (k : ℕ) (bits : List Bool) (words : List ℕ) → lengt
 first_masked-all k bits words all =
     ap (λ pairs. sum_by (λ p. cond p.0 p.1 0) pairs) (take_all k (zip bits words) (omega (arith, length-zip bits words)))
 
--- a bit of 1 takes its mask word from the phase
-pub phase_step_one : (body k : ℕ) (bits : List Bool) (words : List ℕ) (phase : ℕ) → k < length bits → k < length words → get_or bits k false ≡ true → phase ≡ word_difference body (first_masked k bits words) → word_difference phase (get_or words k 0) ≡ word_difference body (first_masked (k + 1) bits words)
-phase_step_one body k bits words phase p q one is =
-    let more = first_masked-more k bits words p q ∙ ap (λ b. first_masked k bits words + cond b (get_or words k 0) 0) one in
-    omega (arith, more, is)
-
--- and a bit of 0 leaves it
-pub phase_step_zero : (body k : ℕ) (bits : List Bool) (words : List ℕ) (phase : ℕ) → k < length bits → k < length words → get_or bits k false ≡ false → phase ≡ word_difference body (first_masked k bits words) → phase ≡ word_difference body (first_masked (k + 1) bits words)
-phase_step_zero body k bits words phase p q zero is =
-    let more = first_masked-more k bits words p q ∙ ap (λ b. first_masked k bits words + cond b (get_or words k 0) 0) zero in
-    omega (arith, more, is)
+-- one mask word less in the phase
+pub phase_step : (body k : ℕ) (bits : List Bool) (words : List ℕ) (phase : ℕ) → k < length bits → k < length words → phase ≡ word_difference body (first_masked k bits words) → word_difference phase (cond (get_or bits k false) (get_or words k 0) 0) ≡ word_difference body (first_masked (k + 1) bits words)
+phase_step body k bits words phase p q is = omega (arith, first_masked-more k bits words p q, is)

@@ -4,4 +4,4 @@ pub mod Secret
 pub mod Phase
 pub mod Decoding
 pub mod Encrypts
-pub mod Noise
+pub mod Laws

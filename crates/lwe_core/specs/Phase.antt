@@ -1,8 +1,11 @@
 -- Phases: what a secret key reads in a ciphertext, the message with its error.
-use Rattle.std.specs.Prelude.{◌≡◌, ℕ, ◌+◌, ◌*◌, Bool, cond, List, length, slice_index}
+use Rattle.std.specs.Prelude.{◌≡◌, ℕ, ◌+◌, ◌++◌, [], ◌∷◌, Bool, cond, List, length, replicate, slice_index, slice_set}
 use Rattle.std.specs.List.{zip, sum_by}
-use Rattle.word_ring.specs.Words.{word_sum, word_difference, word_product}
-use Rattle.word_ring.specs.Rows.{row_sum, row_difference, scaled_row, sum_with_scaled}
+use Rattle.word_ring.specs.Words.{word_sum, word_difference}
+
+-- a ciphertext of the key's dimension: a mask word for each bit, and the body
+abbrev pub FitsKey : List Bool → List ℕ → Type 0
+FitsKey bits words = length words ≡ length bits + 1
 
 -- the sum of the mask words whose bit of the key is 1, in ℕ
 abbrev pub masked_sum : List Bool → List ℕ → ℕ
@@ -12,13 +15,14 @@ masked_sum bits words = sum_by (λ p. cond p.0 p.1 0) (zip bits words)
 abbrev pub phase_of : List Bool → List ℕ → ℕ
 phase_of bits words = word_difference (slice_index words (length bits)) (masked_sum bits words)
 
--- the phase is linear: on ciphertexts of the key's dimension, word by word
-pub record PhaseLaws : Type 0 where
-  -- the phase of a sum is the sum of the phases
-  pub phase_sum : (bits : List Bool) (xs ys : List ℕ) → length xs ≡ length bits + 1 → length ys ≡ length bits + 1 → phase_of bits (row_sum xs ys) ≡ word_sum (phase_of bits xs) (phase_of bits ys)
-  -- that of a difference their difference
-  pub phase_difference : (bits : List Bool) (xs ys : List ℕ) → length xs ≡ length bits + 1 → length ys ≡ length bits + 1 → phase_of bits (row_difference xs ys) ≡ word_difference (phase_of bits xs) (phase_of bits ys)
-  -- that of a multiple the multiple
-  pub phase_multiple : (bits : List Bool) (factor : ℕ) (xs : List ℕ) → length xs ≡ length bits + 1 → phase_of bits (scaled_row factor xs) ≡ word_product factor (phase_of bits xs)
-  -- and so that of a sum with a multiple
-  pub phase_sum_with_multiple : (bits : List Bool) (factor : ℕ) (xs ys : List ℕ) → length xs ≡ length bits + 1 → length ys ≡ length bits + 1 → phase_of bits (sum_with_scaled xs factor ys) ≡ word_sum (phase_of bits xs) (factor * phase_of bits ys)
+-- the ciphertext of a phase under the mask of these words: only the body is new
+abbrev pub sealed : List Bool → List ℕ → ℕ → List ℕ
+sealed bits words phase = slice_set words (length bits) (word_sum phase (masked_sum bits words))
+
+-- the ciphertext whose mask of so many words is 0
+abbrev pub trivial : ℕ → ℕ → List ℕ
+trivial dim body = replicate dim 0 ++ body ∷ []
+
+-- the ciphertext with a word added to its body, which stands behind so many mask words
+abbrev pub with_message : ℕ → List ℕ → ℕ → List ℕ
+with_message dim words message = slice_set words dim (word_sum (slice_index words dim) message)

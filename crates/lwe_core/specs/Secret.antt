@@ -1,6 +1,14 @@
 -- Secret keys: what they have to be for the parameters.
-use Rattle.std.specs.Prelude.{◌≡◌, ℕ, ◌≤◌, Bool, List, length}
+use Rattle.std.specs.Prelude.{◌≡◌, ℕ, ◌≤◌, Bool, List, length, map, if◌then◌else◌}
 use Rattle.std.specs.List.{count_by}
+
+-- a bit of a key as a word
+abbrev pub bit_word : Bool → ℕ
+bit_word bit = if bit then 1 else 0
+
+-- the bits of a key as words
+abbrev pub bit_words : List Bool → List ℕ
+bit_words bits = map bit_word bits
 
 -- how many bits of a key are 1
 abbrev pub ones_of : List Bool → ℕ

@@ -4,7 +4,7 @@ ghost use Rattle.std.specs.Prelude.{◌≡◌, ◌<◌, List, Bool, false, lengt
 ghost use Rattle.std.specs.List.{slice_index_or};
 ghost use Rattle.lwe_core.specs.Secret.{ones_of};
 
-use crate::kind::Kind;
+use crate::kind::{Big, Kind, Small};
 use std::marker::{Model, PhantomData};
 
 /// A secret key of a kind: its bits, in order (Chillotti et al. 2020, keys of TLWE samples). A clause
@@ -61,4 +61,11 @@ impl<K: Kind> LweKey<K> {
         }
         count
     }
+}
+
+/// The two keys of a secret.
+#[derive(Drop)]
+pub struct Secret {
+    pub big: LweKey<Big>,
+    pub small: LweKey<Small>,
 }

@@ -1,8 +1,6 @@
 ghost use Rattle.std.specs.Prelude.{◌≡◌, IfOk, length};
 
-use crate::{
-    Big, Lin, Lwe, LweKey, Small, decode, decoding_laws, encode, noise_laws, phase, phase_laws,
-};
+use crate::{Big, Lin, Lwe, LweKey, Secret, Small, decode, encode, laws, phase, seal};
 use std::alloc::{AllocError, Global};
 use std::test::Fail;
 use word_ring::combine;
@@ -83,9 +81,31 @@ fn words_are_set_one_by_one(rt: HostRuntime) -> Result<(), Fail> {
 
 #[test]
 fn keys_have_bits(rt: HostRuntime) -> Result<(), Fail> {
-    let key = LweKey::<Big>::from_bits(vec![in rt.alloc(); true, false]?);
+    let secret = Secret {
+        big: LweKey::from_bits(vec![in rt.alloc(); true, false]?),
+        small: LweKey::from_bits(vec![in rt.alloc(); true]?),
+    };
+    let key = &secret.big;
     assert_eq!(rt; (key.len(), key.ones()), (2, 1));
     assert!(rt; key.bit(0) && !key.bit(1));
+    assert_eq!(rt; (secret.small.len(), secret.small.ones()), (1, 1));
+    Ok(())
+}
+
+#[test]
+fn sealed_ciphertexts_keep_their_mask(rt: HostRuntime) -> Result<(), Fail> {
+    // the bits of a key, and a message, an error and the body that is set: message + error + the masked words
+    for (first, second, message, error, body) in [
+        (true, false, 6917529027641081856, 1, 6917529027641081862),
+        (false, true, 0, -3, 4),
+        (true, true, MINUS_ONE, 2, 13),
+        (false, false, 0, -1, MINUS_ONE),
+    ] {
+        let key = LweKey::<Big>::from_bits(vec![in rt.alloc(); first, second]?);
+        let mut c = ciphertext(rt.alloc(), 5, 7, 9)?;
+        seal(&key, &mut c, message, error);
+        assert_eq!(rt; c.words(), [5, 7, body].as_slice());
+    }
     Ok(())
 }
 
@@ -184,7 +204,5 @@ fn values_have_places(rt: HostRuntime) {
 
 #[test]
 fn laws_are_free() {
-    phase_laws();
-    decoding_laws();
-    noise_laws();
+    laws::laws();
 }

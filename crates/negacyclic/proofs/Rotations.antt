@@ -43,7 +43,7 @@ monomial_product n i j pos =
     ∙ coefficient_small n (i + j) c
     ∙ sym (get_or-monomial n (i + j) c inside))
 
-negation_is : (x : ℕ) → word_negation x ≡ (minus_one * x) % 2 ^ 64
+pub negation_is : (x : ℕ) → word_negation x ≡ (minus_one * x) % 2 ^ 64
 negation_is x = omega arith
 
 pub monomial_turned : (n i : ℕ) → 0 < n → monomial n (i + n) ≡ map word_negation (monomial n i)

@@ -1,13 +1,14 @@
 -- The distances of the coefficients to 0.
-use Rattle.std.proofs.Common.{◌≡◌, ⊎_elim, ℕ, zero, suc, ◌+◌, ◌-◌, ◌*◌, ◌%◌, ◌^◌, ◌<◌, ◌≤◌, min, List, take, length, get_or, arith, ap, sym, refl, ◌∙◌, subst, add-one, mul_comm}
+use Rattle.std.proofs.Common.{◌≡◌, ⊎_elim, ℕ, zero, suc, ◌+◌, ◌-◌, ◌*◌, ◌%◌, ◌^◌, ◌<◌, ◌≤◌, min, List, take, length, get_or, arith, ap, sym, refl, ◌∙◌, subst, add-one, zero-add, mul_comm, mul_assoc}
 use Rattle.std.proofs.Math.Nat.{mod-mod, mod-lt, add-mul-mod_self_right, mul-le-mul_left}
-use Rattle.std.specs.List.{All, sum_by}
+use Rattle.std.specs.List.{All, sum, sum_by, range_with_len}
 use Rattle.std.proofs.lemmas.List.{get_or_default, take_all}
-use Rattle.std.proofs.lemmas.List.Sums.{sum_by_more}
+use Rattle.std.proofs.lemmas.List.FromFn.{length-range_with_len, get_or-range_with_len}
+use Rattle.std.proofs.lemmas.List.Sums.{sum_by_more, sum_by-le, sum_by-le-sum_by}
 use Rattle.std.proofs.lemmas.Bool.{cases_lt}
 use Rattle.word_ring.specs.Words.{word_sum, word_product, word_negation, size, SizeLaws}
 use Rattle.negacyclic.specs.Product.{sum_below, negacyclic_product, rotation}
-use Rattle.negacyclic.proofs.Sums.{sum-le, sum_scaled_right}
+use Rattle.negacyclic.proofs.Sums.{sum-same, sum-le, sum_scaled_right}
 use Rattle.negacyclic.proofs.Signs.{minus_one, mod_once}
 use Rattle.negacyclic.proofs.Coefficients.{shift, product_at, source, product-comm, shift-kept, shift-turned}
 use Rattle.negacyclic.proofs.Polynomials.{at, product_length, product_coefficient}
@@ -49,8 +50,16 @@ sum_by_places f xs (suc k) h =
     let more : sum_by f (take (k + 1) xs) ≡ sum_by f (take k xs) + f (get_or xs k 0) = sum_by_more f xs k 0 (omega arith) in
     ap (λ t. sum_by f (take t xs)) (sym (add-one k)) ∙ more ∙ ap (λ t. t + f (get_or xs k 0)) low
 
-sum_by-is : (f : ℕ → ℕ) (xs : List ℕ) → sum_below (length xs) (λ j. f (get_or xs j 0)) ≡ sum_by f xs
-sum_by-is f xs = sym (sum_by_places f xs (length xs) (omega arith)) ∙ ap (sum_by f) (take_all (length xs) xs (omega arith))
+pub sum_of_places : (f : ℕ → ℕ) (xs : List ℕ) → sum_below (length xs) (λ i. f (get_or xs i 0)) ≡ sum_by f xs
+sum_of_places f xs = sym (sum_by_places f xs (length xs) (omega arith)) ∙ ap (sum_by f) (take_all (length xs) xs (omega arith))
+
+pub sum_of_range : (f : ℕ → ℕ) (n : ℕ) → sum_below n f ≡ sum_by f (range_with_len 0 n)
+sum_of_range f n =
+    let numbers : List ℕ = range_with_len 0 n in
+    let long : length numbers ≡ n = length-range_with_len 0 n in
+    sum-same n f (λ i. f (get_or numbers i 0)) (λ i l. ap f (sym (get_or-range_with_len 0 n i 0 l ∙ zero-add i)))
+    ∙ ap (λ m. sum_below m (λ i. f (get_or numbers i 0))) (sym long)
+    ∙ sum_of_places f numbers
 
 pub product_size : SizeLaws → (bound : ℕ) (p q : List ℕ) → length p ≡ length q → All (λ w. size w ≤ bound) p → All (λ w. size w ≤ bound * sum_by size q) (negacyclic_product p q)
 product_size laws bound p q e fit c d h =
@@ -71,7 +80,30 @@ product_size laws bound p q e fit c d h =
     let grown : size (at q j) * size y ≤ size (at q j) * bound = mul-le-mul_left (size (at q j)) moved in
     omega arith) in
     let total : sum_below n (λ j. size (at q j) * bound) ≡ bound * sum_by size q =
-    sum_scaled_right n bound (λ j. size (at q j)) ∙ ap (λ t. t * bound) (sum_by-is size q) ∙ mul_comm (sum_by size q) bound in
+    sum_scaled_right n bound (λ j. size (at q j)) ∙ ap (λ t. t * bound) (sum_of_places size q) ∙ mul_comm (sum_by size q) bound in
+    omega arith
+
+-- a bound on the sum of the second factor's sizes
+product_sized : SizeLaws → (bound total : ℕ) (p q : List ℕ) → length p ≡ length q → All (λ w. size w ≤ bound) p → sum_by size q ≤ total → All (λ w. size w ≤ bound * total) (negacyclic_product p q)
+product_sized laws bound total p q e fit most c d h =
+    let grown : bound * sum_by size q ≤ bound * total = mul-le-mul_left bound most in
+    let below : size (get_or (negacyclic_product p q) c d) ≤ bound * sum_by size q = product_size laws bound p q e fit c d h in
+    omega arith
+
+pub product_bound : SizeLaws → (bound most : ℕ) (p q : List ℕ) → length p ≡ length q → All (λ w. size w ≤ bound) p → All (λ w. size w ≤ most) q → All (λ w. size w ≤ length q * (bound * most)) (negacyclic_product p q)
+product_bound laws bound most p q e fit each c d h =
+    let below : size (get_or (negacyclic_product p q) c d) ≤ bound * (length q * most) = product_sized laws bound (length q * most) p q e fit (sum_by-le size most q each) c d h in
+    let same : bound * (length q * most) ≡ length q * (bound * most) = sym (mul_assoc bound (length q) most) ∙ ap (λ t. t * most) (mul_comm bound (length q)) ∙ mul_assoc (length q) bound most in
+    omega arith
+
+-- a number is no smaller than its size
+size-le : (w : ℕ) → size w ≤ w
+size-le w = omega arith
+
+pub product_with_bits : SizeLaws → (bound : ℕ) (p q : List ℕ) → length p ≡ length q → All (λ w. size w ≤ bound) p → All (λ w. size w ≤ sum q * bound) (negacyclic_product p q)
+product_with_bits laws bound p q e fit c d h =
+    let below : size (get_or (negacyclic_product p q) c d) ≤ bound * sum q = product_sized laws bound (sum q) p q e fit (sum_by-le-sum_by size (λ w. w) q size-le) c d h in
+    let same : bound * sum q ≡ sum q * bound = mul_comm bound (sum q) in
     omega arith
 
 pub rotation_size : (by : ℕ) (p : List ℕ) (c : ℕ) → c < length p → size (get_or (rotation by p) c 0) ≡ size (get_or p ((c + (2 * length p - by % (2 * length p))) % length p) 0)

@@ -1,8 +1,21 @@
 //! The laws of polynomials, as contracts that a proof may call for.
 
-ghost use Rattle.negacyclic.specs.Laws.{ProductLaws, RotationLaws, ProductSizeLaws};
+ghost use Rattle.negacyclic.specs.Laws.{ProductLaws, RotationLaws, SumLaws, ProductSizeLaws};
 
 use word_ring::{row_laws, size_laws};
+
+/// All laws of polynomials.
+#[inline]
+pub fn laws()
+    ensures products { ProductLaws }
+    ensures rotations { RotationLaws }
+    ensures sums { SumLaws }
+    ensures sizes { ProductSizeLaws }
+{
+    product_laws();
+    rotation_laws();
+    product_size_laws();
+}
 
 /// Polynomials are a commutative ring.
 #[inline]
@@ -16,7 +29,9 @@ pub fn product_laws()
 #[inline]
 pub fn rotation_laws()
     ensures { RotationLaws }
-{}
+{
+    row_laws();
+}
 
 /// How products and rotations change the distances to 0, on which every bound on noise stands.
 #[inline]

@@ -5,7 +5,8 @@ ghost use Rattle.word_ring.specs.Words.{IsWord};
 ghost use Rattle.word_ring.specs.Rows.{row_sum};
 ghost use Rattle.negacyclic.specs.Product.{negacyclic_product, rotation};
 
-use crate::product;
+use crate::karatsuba::LEAF_LOG_N;
+use crate::{karatsuba, product};
 use std::alloc::{AllocError, Global};
 use std::marker::Model;
 use word_ring::{Lin, rows};
@@ -113,10 +114,11 @@ impl Lin for Poly {
     ghost same_length = { λ p q _ _ shapes. ap (λ s. slice_index s 0) shapes };
 }
 
-/// The room that a product of polynomials of 2^log_n coefficients works in, with log_n from 1 to 13. A
-/// clause sees it as log_n. The plain product works in place, so that it is empty for now.
+/// The room that a product of polynomials of N = 2^log_n coefficients works in, with log_n from 1 to 13:
+/// 6N words. A clause sees it as log_n.
 #[derive(Debug, Drop)]
 pub struct Scratch {
+    words: Vec<u64>,
     log_n: u32,
 }
 
@@ -125,27 +127,48 @@ impl Model for Scratch {
 
     ghost view = { λ s. s.log_n };
 
-    ghost invariant = { λ s. (1 ≤ s.log_n) × (s.log_n ≤ 13) };
+    ghost invariant = { λ s. (length s.words.items ≡ 6 * 2 ^ s.log_n) × (1 ≤ s.log_n) × (s.log_n ≤ 13) };
 }
 
 impl Scratch {
     /// The room for products of 2^log_n coefficients. It fails only for memory.
-    pub fn new(_alloc: Global, log_n: u32) -> Result<Scratch, AllocError>
+    pub fn new(alloc: Global, log_n: u32) -> Result<Scratch, AllocError>
         requires one_or_more { 1 ≤ log_n }
         requires thirteen_or_less { log_n ≤ 13 }
         ensures { IfOk result (λ s. s ≡ log_n) }
     {
-        Ok(Scratch { log_n })
+        let words = vec![in alloc; 0; 6 << log_n]?;
+        Ok(Scratch { words, log_n })
     }
 }
 
-/// Adds to `into` the product of `a` and `b` modulo X^N + 1 (Chillotti et al. 2020). All have one log_n.
+/// Adds to `into` the product of `a` and `b` modulo X^N + 1 (Chillotti et al. 2020), by Karatsuba's method from
+/// N 8 on. All have one log_n.
 pub fn mul_add(into: &mut Poly, a: &Poly, b: &Poly, scratch: &mut Scratch)
     requires first { length a.now ≡ length into.old }
     requires second { length b.now ≡ length into.old }
     requires room { length into.old ≡ 2 ^ scratch.old }
     ensures sum { into.new ≡ row_sum into.old (negacyclic_product a.now b.now) }
     ensures room_stays { scratch.new ≡ scratch.old }
+{
+    if scratch.log_n < LEAF_LOG_N {
+        mul_add_plain(into, a, b);
+    } else {
+        karatsuba::add_product(
+            into.words.as_mut_slice(),
+            a.words.as_slice(),
+            b.words.as_slice(),
+            scratch.words.as_mut_slice(),
+            scratch.log_n - LEAF_LOG_N,
+        );
+    }
+}
+
+/// Adds to `into` the product of `a` and `b`, as `mul_add` does, by its plain sums. All have one log_n.
+pub fn mul_add_plain(into: &mut Poly, a: &Poly, b: &Poly)
+    requires first { length a.now ≡ length into.old }
+    requires second { length b.now ≡ length into.old }
+    ensures { into.new ≡ row_sum into.old (negacyclic_product a.now b.now) }
 {
     product::add_product(
         into.words.as_mut_slice(),

@@ -35,6 +35,7 @@ fn add_rotated(into: &mut [u64], b: &[u64], by: usize, factor: u64)
 }
 
 /// Sets `into` to X^by times `a`.
+#[tactic(auto, using(crate::proofs::Rotations::rotation_below, crate::proofs::Rotations::rotation_from))]
 pub fn rotate(into: &mut [u64], a: &[u64], by: usize)
     requires one_length { length a.now ≡ length into.old }
     requires below { by < 2 * length into.old }

@@ -97,6 +97,62 @@ fn products_of_four_are_added(rt: HostRuntime) -> Result<(), Fail> {
 }
 
 #[test]
+fn product_of_ones(rt: HostRuntime) -> Result<(), Fail> {
+    let ones = of_words(rt.alloc(), 5, &[1; 32])?;
+    let mut scratch = Scratch::new(rt.alloc(), 5)?;
+    let mut into = Poly::new(rt.alloc(), 5)?;
+    mul_add(&mut into, &ones, &ones, &mut scratch);
+    // coefficient c is c + 1 - (31 - c)
+    let expected = (0..32u64)
+        .map(|c| (2 * c).wrapping_sub(30))
+        .collect::<Vec<u64>>(rt.alloc())?;
+    assert_eq!(rt; into.coeffs(), expected.as_slice());
+    assert_eq!(rt; into.coeffs().first(), Some(&18446744073709551586));
+    Ok(())
+}
+
+/// A polynomial of 2^log_n coefficients, each made of the one before by a linear congruence.
+fn drawn(alloc: Global, log_n: u32, start: u64) -> Result<Poly, AllocError>
+    requires one_or_more { 1 ≤ log_n }
+    requires thirteen_or_less { log_n ≤ 13 }
+    ensures { IfOk result (λ p. length p ≡ 2 ^ log_n) }
+{
+    let mut poly = Poly::new(alloc, log_n)?;
+    let mut word = start;
+    for i in 0..poly.coeffs().len() {
+        word = word
+            .wrapping_mul(6364136223846793005)
+            .wrapping_add(1442695040888963407);
+        poly.set(i, word);
+    }
+    Ok(poly)
+}
+
+/// Whether both calls add one product.
+fn products_agree(alloc: Global, log_n: u32) -> Result<bool, AllocError>
+    requires one_or_more { 1 ≤ log_n }
+    requires thirteen_or_less { log_n ≤ 13 }
+{
+    let a = drawn(alloc, log_n, 1)?;
+    let b = drawn(alloc, log_n, 2)?;
+    let mut split = drawn(alloc, log_n, 3)?;
+    let mut plain = drawn(alloc, log_n, 3)?;
+    let mut scratch = Scratch::new(alloc, log_n)?;
+    mul_add(&mut split, &a, &b, &mut scratch);
+    mul_add_plain(&mut plain, &a, &b);
+    Ok(split.coeffs() == plain.coeffs())
+}
+
+#[test]
+fn products_are_one_product(rt: HostRuntime) -> Result<(), Fail> {
+    for log_n in [1, 2, 3, 4, 5, 9, 10] {
+        assert!(rt; 1 <= log_n && log_n <= 13);
+        assert!(rt; products_agree(rt.alloc(), log_n)?, "log_n {log_n}");
+    }
+    Ok(())
+}
+
+#[test]
 fn rotations_of_two(rt: HostRuntime) -> Result<(), Fail> {
     let p = of_words(rt.alloc(), 1, &[1, 2])?;
     for (by, rotated) in [
@@ -163,4 +219,5 @@ fn laws_are_free() {
     product_laws();
     rotation_laws();
     product_size_laws();
+    laws::laws();
 }

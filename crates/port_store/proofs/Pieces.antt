@@ -1,6 +1,6 @@
 -- A list that is taken piece by piece.
-use Rattle.std.proofs.Common.{◌≡◌, ℕ, ◌+◌, ◌-◌, ◌<◌, ◌≤◌, min, List, ◌++◌, length, take, drop, sym, ap, ◌∙◌, ⊎_elim, arith, take-add, take_all, length-take, length-drop, length-append, length-take-le}
-use Rattle.std.proofs.lemmas.List.{take-take, take-append-le}
+use Rattle.std.proofs.Common.{◌≡◌, ℕ, ◌+◌, ◌-◌, ◌<◌, ◌≤◌, min, List, ◌++◌, length, take, drop, sym, ap, ◌∙◌, ⊎_elim, arith, take-add, take_all, length-take, length-drop, length-append, length-take-le, add-zero}
+use Rattle.std.proofs.lemmas.List.{take-take, take-append-le, append-nil}
 use Rattle.std.proofs.Math.Seq.{take-append-add}
 use Rattle.std.proofs.lemmas.Bool.{cases_lt}
 use borrow.Rule.Slice.PartMut.{put_mid}
@@ -21,13 +21,24 @@ take-append-take n m k xs = ap (λ ys. take n xs ++ ys) (take-take-min k m (drop
 pub take-append-next : (i j : ℕ) (xs : List ℕ) → i ≤ j → take i xs ++ take (j - i) (drop i xs) ≡ take j xs
 take-append-next i j xs below = sym (take-add i (j - i) xs) ∙ ap (λ k. take k xs) (omega arith)
 
--- a call that gives the next bytes of the whole makes a longer front of it
-pub take-put_mid-next : (whole buffer part : List ℕ) (n room count : ℕ) → n ≤ length buffer → count ≤ length part → take n buffer ≡ take n whole → take count part ≡ take count (drop n whole) → take (n + count) (put_mid n room buffer part) ≡ take (n + count) whole
-take-put_mid-next whole buffer part n room count fits within front next =
+-- the front of a buffer of which a part was filled
+pub take-put_mid : (buffer part : List ℕ) (n room count : ℕ) → n ≤ length buffer → count ≤ length part → take (n + count) (put_mid n room buffer part) ≡ take n buffer ++ take count part
+take-put_mid buffer part n room count fits within =
     let rest = drop room (drop n buffer) in
     ap (λ k. take (k + count) (put_mid n room buffer part)) (sym (length-take-le n buffer fits))
     ∙ take-append-add (take n buffer) (part ++ rest) count
-    ∙ ap (λ ys. take n buffer ++ ys) (take-append-le count part rest within ∙ next)
+    ∙ ap (λ ys. take n buffer ++ ys) (take-append-le count part rest within)
+
+-- what stands before that part stays
+pub front-put_mid : (buffer part : List ℕ) (n room : ℕ) → n ≤ length buffer → take n (put_mid n room buffer part) ≡ take n buffer
+front-put_mid buffer part n room fits =
+    ap (λ k. take k (put_mid n room buffer part)) (sym (add-zero n)) ∙ take-put_mid buffer part n room 0 fits (omega arith) ∙ append-nil (take n buffer)
+
+-- a call that gives the next bytes of the whole makes a longer front of it
+pub take-put_mid-next : (whole buffer part : List ℕ) (n room count : ℕ) → n ≤ length buffer → count ≤ length part → take n buffer ≡ take n whole → take count part ≡ take count (drop n whole) → take (n + count) (put_mid n room buffer part) ≡ take (n + count) whole
+take-put_mid-next whole buffer part n room count fits within front next =
+    take-put_mid buffer part n room count fits within
+    ∙ ap (λ ys. take n buffer ++ ys) next
     ∙ ap (λ xs. xs ++ take count (drop n whole)) front
     ∙ sym (take-add n count whole)
 

@@ -6,6 +6,8 @@ use Rattle.std.specs.Ordering.{nat_cmp, eq_by_cmp, is_eq}
 use Rattle.std.specs.declared.cmp.Ordering.{Ordering}
 use Rattle.std.specs.declared.cmp.Ordering.TheVariants.{Less, Equal, Greater}
 use Rattle.std.specs.Cmp.Lexicographic.{slice_cmp}
+use Rattle.std.proofs.lemmas.Slice.Eq.{bytes_eq-Decides}
+use Rattle.std.specs.Str.{bytes_eq}
 use Rattle.std.proofs.lemmas.Cmp.{nat_list_cmp_total, eq_by_cmp_equiv}
 use Rattle.port_store.specs.Files.{Bytes, Files, Told, MayHold, IsMissing, OfFile, IsAppended, MayBeAppended, MayBeCreated, IsWritten, MayBeWritten}
 
@@ -14,6 +16,24 @@ pub get-insert-same : (files : Files) (name bytes : Bytes) → get (insert files
 get-insert-same files name bytes =
     get-insert nat_list_cmp_total files name bytes name
     ∙ ap (λ b. cond b (Some bytes) (get files name)) ((eq_by_cmp_equiv nat_list_cmp_total).refl name)
+
+is_eq-true : (r : Ordering) → is_eq r ≡ true → r ≡ Equal
+is_eq-true Less e = absurd (false≢true e)
+is_eq-true Equal e = refl
+is_eq-true Greater e = absurd (false≢true e)
+
+-- names that compare alike are one
+same_text : (xs ys : Bytes) → eq_by_cmp (slice_cmp nat_cmp) xs ys ≡ true → xs ≡ ys
+same_text xs ys alike = slice_cmp-IsAntisymmetric nat_cmp-IsAntisymmetric xs ys (is_eq-true _ alike)
+
+apart_by : (other name : Bytes) (same : Bool) → eq_by_cmp (slice_cmp nat_cmp) other name ≡ same → bytes_eq other name ≡ false → same ≡ false
+apart_by other name true e apart = absurd (false≢true (sym apart ∙ (bytes_eq-Decides other name).1 (same_text other name e)))
+apart_by other name false e apart = refl
+
+-- files of other names stay
+pub get-insert-other : (files : Files) (name bytes other : Bytes) → bytes_eq other name ≡ false → get (insert files name bytes) other ≡ get files other
+get-insert-other files name bytes other apart =
+    get-insert nat_list_cmp_total files name bytes other ∙ ap (λ b. cond b (Some bytes) (get files other)) (apart_by other name _ refl apart)
 
 cond_twice : {A : Type 0} (b : Bool) (x y z : A) → cond b x (cond b y z) ≡ cond b x z
 cond_twice true x y z = refl
@@ -28,15 +48,6 @@ insert-insert files name xs ys =
     ∙ ap (cond here (Some ys)) (get-insert nat_list_cmp_total files name xs q)
     ∙ cond_twice here (Some ys) (Some xs) (get files q)
     ∙ sym (get-insert nat_list_cmp_total files name ys q))
-
-is_eq-true : (r : Ordering) → is_eq r ≡ true → r ≡ Equal
-is_eq-true Less e = absurd (false≢true e)
-is_eq-true Equal e = refl
-is_eq-true Greater e = absurd (false≢true e)
-
--- names that compare alike are one
-same_text : (xs ys : Bytes) → eq_by_cmp (slice_cmp nat_cmp) xs ys ≡ true → xs ≡ ys
-same_text xs ys alike = slice_cmp-IsAntisymmetric nat_cmp-IsAntisymmetric xs ys (is_eq-true _ alike)
 
 found_here : (files : Files) (name bytes other : Bytes) (here : Bool) → eq_by_cmp (slice_cmp nat_cmp) other name ≡ here → get files name ≡ Some bytes → cond here (Some bytes) (get files other) ≡ get files other
 found_here files name bytes other true here there = sym there ∙ ap (get files) (sym (same_text other name here))

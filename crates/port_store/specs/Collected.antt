@@ -6,7 +6,8 @@ use Rattle.port_store.specs.Listed.{one_more, kept_of, taken_of}
 use Rattle.port_store.specs.declared.fault.PortFault.{PortFault}
 use Rattle.port_store.specs.declared.fault.PortFault.TheVariants as fault
 
--- the state of a sink in memory: the bytes it has taken, how many calls there were, which calls fail and how many bytes each keeps, and the count of faults
+-- the state of a sink in memory: the bytes it has taken, how many calls there were, which calls fail and how many bytes
+-- each keeps, and the count of faults
 pub record Collected : Type 0 where
   pub taken : Bytes
   pub calls : ℕ

@@ -34,7 +34,8 @@ abbrev pub OfFile : Option Files → Bytes → (Bytes → Type 0) → Type 0
 OfFile None name P = Unit {0}
 OfFile (Some files) name P = MatchOption (get files name) ⊥ P
 
--- count bytes were copied from the place in a file to the front of the buffer: at least one where one is left and the buffer has room, and none at the end or past it
+-- count bytes were copied from the place in a file to the front of the buffer: at least one where one is left and the
+-- buffer has room, and none at the end or past it
 pub record Copies (bytes : Bytes) (at : ℕ) (buffer : Bytes) (count : ℕ) : Type 0 where
   pub copied : take count buffer ≡ take count (drop at bytes)
   pub inside : count ≤ length bytes - at

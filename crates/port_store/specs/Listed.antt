@@ -13,7 +13,8 @@ abbrev pub kept_of : List (ℕ × ℕ) → ℕ → Option ℕ
 kept_of [] call = None
 kept_of (entry ∷ entries) call = if entry.0 == call then Some entry.1 else kept_of entries call
 
--- the beginning of a piece that a call takes: all of it at Ok, what is listed where it failed so, and none of it where memory ran out
+-- the beginning of a piece that a call takes: all of it at Ok, what is listed where it failed so, and none of it where
+-- memory ran out
 abbrev pub taken_of : Option ℕ → Result Unit PortFault → Bytes → Bytes
 taken_of listed (Ok done) piece = piece
 taken_of (Some kept) (Err fault.Failed) piece = take kept piece

@@ -8,7 +8,8 @@ use Rattle.port_store.specs.Listed.{one_more, kept_of, taken_of}
 use Rattle.port_store.specs.declared.fault.PortFault.{PortFault}
 use Rattle.port_store.specs.declared.fault.PortFault.TheVariants as fault
 
--- the state of a store in memory: its files, how many calls there were, which calls fail and how many bytes each keeps, and the two counts of faults
+-- the state of a store in memory: its files, how many calls there were, which calls fail and how many bytes each keeps,
+-- and the two counts of faults
 pub record Memory : Type 0 where
   pub files : Files
   pub calls : ℕ
@@ -36,7 +37,8 @@ listed_now memory = kept_of memory.failures memory.calls
 abbrev pub is_fault : Memory → Bytes → Bool
 is_fault memory name = is_some (listed_now memory) && map.contains_key memory.files name
 
--- what a call on a file that has to be there answers while memory lasts: it fails where the file is missing or the call is listed
+-- what a call on a file that has to be there answers while memory lasts: it fails where the file is missing or the call
+-- is listed
 abbrev pub file_answer : {A : Type 0} → Memory → Bytes → (Bytes → A) → Result A PortFault
 file_answer memory name value = option_map_or (λ bytes. if is_some (listed_now memory) then Err fault.Failed else Ok (value bytes)) (map.get memory.files name) (Err fault.Failed)
 

@@ -5,6 +5,7 @@
 mod failures;
 mod fault;
 mod file_store;
+pub mod laws;
 mod mem_sink;
 mod mem_store;
 mod out_sink;

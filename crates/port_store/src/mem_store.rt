@@ -1,6 +1,6 @@
 //! A store in memory, a fake for tests.
 
-ghost use Rattle.std.specs.Prelude.{◌≡◌, ◌++◌, List, ◌∷◌, [], length, ◌≤◌, if◌then◌else◌, Option, Some, IfOk, IfErr, OnOk, OnErr, IsErrOf, is_some, is_ok};
+ghost use Rattle.std.specs.Prelude.{◌≡◌, ◌++◌, List, ◌∷◌, [], length, ◌≤◌, if◌then◌else◌, Option, Some, None, IfOk, IfErr, OnOk, OnErr, IsErrOf, is_some, is_ok};
 ghost use Rattle.std.specs.Option.{option_copied};
 ghost use Rattle.std.specs.FinMap as map;
 ghost use Rattle.port_store.specs.Files.{Told, MayHold, IsMissing, OfFile, Copies, IsCreated, MayBeCreated, IsAppended, MayBeAppended};
@@ -118,6 +118,8 @@ impl MemStore {
 impl Store for MemStore {
     ghost files = { λ s. Some s.files };
 
+    ghost shown = { λ _. None };
+
     ghost read_faults = { λ s. s.read_faults };
 
     ghost write_faults = { λ s. s.write_faults };
@@ -131,7 +133,8 @@ impl Store for MemStore {
         ensures no_write { self.new.write_faults ≡ self.old.write_faults }
         ensures size { IfOk result (λ size. OfFile (Some self.old.files) name.now (λ bytes. size ≡ length bytes)) }
         ensures ok { OnOk result (self.new.read_faults ≡ self.old.read_faults) }
-        ensures failed { IsErrOf result PortFault.Failed → MayHold (Some self.old.files) name.now → Rises self.old.read_faults self.new.read_faults }
+        ensures failed { IsErrOf result PortFault.Failed → MayHold (Some self.old.files) name.now
+            → Rises self.old.read_faults self.new.read_faults }
         ensures missing { IsMissing (Some self.old.files) name.now → self.new.read_faults ≡ self.old.read_faults }
     {
         let listed = self.next_read(name);
@@ -152,7 +155,8 @@ impl Store for MemStore {
         ensures room { IfOk result (λ count. count ≤ length buffer.old) }
         ensures copied { IfOk result (λ count. OfFile (Some self.old.files) name.now (λ bytes. Copies bytes at buffer.new count)) }
         ensures ok { OnOk result (self.new.read_faults ≡ self.old.read_faults) }
-        ensures failed { IsErrOf result PortFault.Failed → MayHold (Some self.old.files) name.now → Rises self.old.read_faults self.new.read_faults }
+        ensures failed { IsErrOf result PortFault.Failed → MayHold (Some self.old.files) name.now
+            → Rises self.old.read_faults self.new.read_faults }
         ensures missing { IsMissing (Some self.old.files) name.now → self.new.read_faults ≡ self.old.read_faults }
     {
         let listed = self.next_read(name);
@@ -189,7 +193,8 @@ impl Store for MemStore {
         ensures appended { OnOk result (Told (IsAppended name.now bytes.now) (Some self.old.files) (Some self.new.files)) }
         ensures ok { OnOk result (self.new.write_faults ≡ self.old.write_faults) }
         ensures err { OnErr result (Told (MayBeAppended name.now bytes.now) (Some self.old.files) (Some self.new.files)) }
-        ensures failed { IsErrOf result PortFault.Failed → MayHold (Some self.old.files) name.now → Rises self.old.write_faults self.new.write_faults }
+        ensures failed { IsErrOf result PortFault.Failed → MayHold (Some self.old.files) name.now
+            → Rises self.old.write_faults self.new.write_faults }
         ensures missing { IsMissing (Some self.old.files) name.now → self.new.write_faults ≡ self.old.write_faults }
     {
         let listed = self.next_call();

@@ -1,3 +1,5 @@
+ghost use Rattle.std.specs.Prelude.{None};
+
 use super::*;
 use std::alloc::Global;
 use std::fs;
@@ -124,6 +126,48 @@ fn a_failed_piece_leaves_the_beginning(rt: HostRuntime) -> Result<(), Fail> {
     Ok(())
 }
 
+// A store whose file has shrunk since its size was asked.
+#[derive(Drop)]
+struct Shrunk;
+
+impl Store for Shrunk {
+    ghost files = { λ _. None };
+
+    ghost shown = { λ _. None };
+
+    ghost read_faults = { λ _. 0 };
+
+    ghost write_faults = { λ _. 0 };
+
+    fn size(&mut self, _name: &str) -> Result<u64, PortFault> {
+        Ok(5)
+    }
+
+    fn read_at(&mut self, _name: &str, at: u64, buffer: &mut [u8]) -> Result<usize, PortFault> {
+        if at < 3 && !buffer.is_empty() {
+            buffer[0] = b'x';
+            Ok(1)
+        } else {
+            Ok(0)
+        }
+    }
+
+    fn create(&mut self, _name: &str) -> Result<(), PortFault> {
+        Ok(())
+    }
+
+    fn append(&mut self, _name: &str, _bytes: &[u8]) -> Result<(), PortFault> {
+        Ok(())
+    }
+}
+
+#[test]
+fn a_file_that_shrinks_is_not_padded(rt: HostRuntime) -> Result<(), Fail> {
+    let read = read_whole(rt.alloc(), &mut Shrunk, "a", 5)?;
+    assert_eq!(rt; read.as_slice(), b"xxx".as_slice());
+    Ok(())
+}
+
 #[test]
 fn mem_sink_takes(rt: HostRuntime) -> Result<(), Fail> {
     let mut sink = MemSink::new(rt.alloc());
@@ -169,8 +213,38 @@ fn real_files(rt: HostRuntime) -> Result<(), Fail> {
     store.create(name)?;
     assert_eq!(rt; store.size(name), Ok(0));
     fs::remove_file(&rt, name)?;
-    assert_eq!(rt; store.append(name, b"x"), Err(PortFault::Failed));
+    assert_eq!(rt;
+        FileStore::new(&rt, rt.alloc()).append(name, b"x"),
+        Err(PortFault::Failed)
+    );
     assert_eq!(rt; store.size(name), Err(PortFault::Failed));
+    Ok(())
+}
+
+#[test]
+fn only_regular_files_are_read(rt: HostRuntime) -> Result<(), Fail> {
+    let mut store = FileStore::new(&rt, rt.alloc());
+    for name in [".", "/dev/zero"] {
+        assert_eq!(rt; store.size(name), Err(PortFault::Failed), "{name}");
+        assert_eq!(rt;
+            store.read_at(name, 0, &mut [0]),
+            Err(PortFault::Failed),
+            "{name}"
+        );
+    }
+    Ok(())
+}
+
+#[test]
+fn a_created_file_stays_open(rt: HostRuntime) -> Result<(), Fail> {
+    let (name, other) = ("port_store_created.tmp", "port_store_moved.tmp");
+    let mut store = FileStore::new(&rt, rt.alloc());
+    store.create(name)?;
+    store.append(name, b"ab")?;
+    fs::rename(&rt, name, other)?;
+    store.append(name, b"c")?;
+    assert_eq!(rt; store.size(other), Ok(3));
+    fs::remove_file(&rt, other)?;
     Ok(())
 }
 

@@ -1,9 +1,10 @@
 //! A whole file at once, read under a limit and written in pieces.
 
-ghost use Rattle.std.specs.Prelude.{◌≡◌, ◌≤◌, ◌<◌, ℕ, length, take, vec_len, Option, IfOk, OnOk, OnErr, IsErrOf};
+ghost use Rattle.std.specs.Prelude.{◌≡◌, ◌≤◌, ◌<◌, ℕ, length, take, vec_len, List, ◌∷◌, Option, Some, IfOk, OnOk, OnErr, IsErrOf};
 ghost use Rattle.port_store.specs.Files.{Told, MayHold, IsMissing, OfFile, IsWritten, MayBeWritten};
 ghost use Rattle.port_store.specs.Faults.{Rises};
 ghost use Rattle.port_store.specs.Refusals.{IfAbove};
+ghost use Rattle.port_store.specs.Shown.{Shown, Accounts, whole, sized};
 
 use crate::fault::{PortFault, ReadRefusal};
 use crate::store::Store;
@@ -26,10 +27,17 @@ pub fn read_whole<S: Store>(
     ensures above { IfAbove result (λ size. limit < size) }
     ensures size { IfAbove result (λ size. OfFile (S.files store.old) name.now (λ bytes. size ≡ length bytes)) }
 
+    // On every store that keeps account of what its calls gave, the bytes are those that `read_at` gave, in order.
+    ensures shown { IfOk result (λ v. Accounts (λ account. whole name.now v.items ∷ account) (S.shown store.old) (S.shown store.new)) }
+    ensures sized { IfAbove result (λ size. Accounts (λ account. sized name.now size ∷ account) (S.shown store.old) (S.shown store.new)) }
+    ensures unseen { IsMissing (S.files store.old) name.now
+        → Accounts (λ account. account) (S.shown store.old) (S.shown store.new) }
+
     // When a call failed, and what the counts say of it.
     ensures ok { OnOk result (S.read_faults store.new ≡ S.read_faults store.old) }
     ensures no_fault { IfAbove result (λ size. S.read_faults store.new ≡ S.read_faults store.old) }
-    ensures failed { IsErrOf result ReadRefusal.Failed → MayHold (S.files store.old) name.now → Rises (S.read_faults store.old) (S.read_faults store.new) }
+    ensures failed { IsErrOf result ReadRefusal.Failed → MayHold (S.files store.old) name.now
+        → Rises (S.read_faults store.old) (S.read_faults store.new) }
     ensures missing { IsMissing (S.files store.old) name.now → S.read_faults store.new ≡ S.read_faults store.old }
 
     // Whatever the answer.
@@ -62,8 +70,12 @@ fn zeros(alloc: Global, count: usize) -> Result<Vec<u8>, PortFault>
 fn fill<S: Store>(store: &mut S, name: &str, buffer: &mut [u8]) -> Result<usize, PortFault>
     requires { MayHold (S.files store.old) name.now }
 
-    ensures content { IfOk result (λ count. OfFile (S.files store.old) name.now (λ bytes. take count buffer.new ≡ take (length buffer.old) bytes)) }
+    ensures content { IfOk result (λ count. OfFile (S.files store.old) name.now
+        (λ bytes. take count buffer.new ≡ take (length buffer.old) bytes)) }
     ensures room { IfOk result (λ count. count ≤ length buffer.old) }
+    ensures shown { IfOk result (λ count. (account : List Shown)
+        → S.shown store.old ≡ Some (sized name.now (length buffer.old) ∷ account)
+        → S.shown store.new ≡ Some (whole name.now (take count buffer.new) ∷ account)) }
     ensures ok { OnOk result (S.read_faults store.new ≡ S.read_faults store.old) }
     ensures failed { IsErrOf result PortFault.Failed → Rises (S.read_faults store.old) (S.read_faults store.new) }
     ensures files { S.files store.new ≡ S.files store.old }
@@ -90,6 +102,7 @@ pub fn write_whole<S: Store>(store: &mut S, name: &str, bytes: &[u8]) -> Result<
     ensures failed { IsErrOf result PortFault.Failed → Rises (S.write_faults store.old) (S.write_faults store.new) }
     ensures never_fall { S.write_faults store.old ≤ S.write_faults store.new }
     ensures no_read { S.read_faults store.new ≡ S.read_faults store.old }
+    ensures account { S.shown store.new ≡ S.shown store.old }
 {
     store.create(name)?;
     let mut written = 0;

@@ -3,3 +3,6 @@ pub mod RowLaws
 pub mod RoundingParts
 pub mod SignedParts
 pub mod RowLoops
+pub mod RowRing
+pub mod RowTotals
+pub mod Examples

@@ -112,7 +112,7 @@ All-named P values places each = λ k d h. named_from_all P values (get_or place
 first_mod : (a s w y z t : ℕ) → t ≡ w * y + s → y ≡ z → (a + t) % 2 ^ 64 ≡ word_sum ((a + s) % 2 ^ 64) (w * z)
 first_mod a s w y z t e f = step_mod a s w y z t (e ∙ add_comm (w * y) s) f
 
-combined-first : (into weights : List ℕ) (rows : List (List ℕ)) (weight : ℕ) (row : List ℕ) → length row ≡ length into → combined into (weight ∷ weights) (row ∷ rows) ≡ sum_with_scaled (combined into weights rows) weight row
+pub combined-first : (into weights : List ℕ) (rows : List (List ℕ)) (weight : ℕ) (row : List ℕ) → length row ≡ length into → combined into (weight ∷ weights) (row ∷ rows) ≡ sum_with_scaled (combined into weights rows) weight row
 combined-first into weights rows weight row e =
     let before : List ℕ = combined into weights rows in
     let long : length before ≡ length into = length-combined into weights rows in

@@ -12,7 +12,8 @@ use crate::lin::Lin;
 pub fn combine<T: Lin>(into: &mut T, weights: &[u64], places: &[usize], values: &[T])
     requires one_weight_each { length weights.now ≡ length places.now }
     requires in_range { All (λ place. place < length values.now) places.now }
-    requires fitting { All (λ place. IfSome (slice_get values.now place) (λ value. T.shape value ≡ T.shape into.old)) places.now }
+    requires fitting { All (λ place.
+        IfSome (slice_get values.now place) (λ value. T.shape value ≡ T.shape into.old)) places.now }
     ensures shape { T.shape into.new ≡ T.shape into.old }
     ensures words { T.words into.new ≡ combined (T.words into.old) weights.now (rows_at T.words values.now places.now) }
 {

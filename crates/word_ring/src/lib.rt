@@ -3,11 +3,11 @@
 //!
 //! `words` has the ring's operations with their laws, `rounding` words by their highest bits, `rows` the operations
 //! on slices of words, `lin` the trait of the types that are such rows, and `combination` weighted sums of such
-//! values.
+//! values. `laws` promises what holds of them.
 #![tactic(auto)]
 
 mod combination;
-mod laws;
+pub mod laws;
 mod lin;
 mod rounding;
 pub mod rows;

@@ -56,7 +56,8 @@ pub trait Lin {
     ghost words_fit: { (x : Self) → is_value x → All IsWord (words x) };
 
     /// Values of one shape have as many words as each other.
-    ghost same_length: { (x y : Self) → is_value x → is_value y → shape x ≡ shape y → length (words x) ≡ length (words y) };
+    ghost same_length: { (x y : Self) → is_value x → is_value y → shape x ≡ shape y
+        → length (words x) ≡ length (words y) };
 }
 
 impl Lin for u64 {

@@ -1,7 +1,17 @@
 //! Rounding of words.
 
-ghost use Rattle.std.specs.Prelude.{◌≡◌, ◌*◌, ◌≤◌};
+ghost use Rattle.std.specs.Prelude.{◌≡◌, ◌-◌, ◌*◌, ◌^◌, ◌≤◌};
 ghost use Rattle.word_ring.specs.Rounding.{rounded, mod_switched, RoundingLaws, SwitchingLaws};
+
+/// Half of `2^shift`: added to a word before its lowest bits are cut, it makes the cut a rounding.
+#[inline]
+fn half_step(shift: u32) -> u64
+    requires some { 1 ≤ shift }
+    requires fits { shift ≤ 64 }
+    ensures { result ≡ 2 ^ (shift - 1) }
+{
+    1 << (shift - 1)
+}
 
 /// The multiple of `2^(64 - base*level)` nearest to `w`, a tie going up, modulo 2^64: what `level` digits
 /// of `base` bits keep of a word (Chillotti et al. 2020, the approximate gadget decomposition).
@@ -13,8 +23,7 @@ pub fn round_to(w: u64, base: u32, level: u32) -> u64
     ensures { result ≡ rounded w base level }
 {
     let shift = 64 - base * level;
-    let half = 1 << (shift - 1);
-    (w.wrapping_add(half) >> shift) << shift
+    (w.wrapping_add(half_step(shift)) >> shift) << shift
 }
 
 /// The nearest of `2N` places, `N = 2^log_n`, that stand `2^(63-log_n)` apart on the circle of the words, a
@@ -26,8 +35,7 @@ pub fn mod_switch(w: u64, log_n: u32) -> u32
     ensures { result ≡ mod_switched w log_n }
 {
     let shift = 63 - log_n;
-    let half = 1 << (shift - 1);
-    (w.wrapping_add(half) >> shift) as u32
+    (w.wrapping_add(half_step(shift)) >> shift) as u32
 }
 
 /// A rounded word is a multiple of the step, at most half a step away.

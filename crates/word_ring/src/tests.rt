@@ -1,3 +1,4 @@
+use crate::laws::laws;
 use crate::{
     Lin, centred, centred_laws, combine, mod_switch, residue_laws, ring_laws, round_to,
     rounding_laws, row_laws, rows, signed_laws, size_laws, switching_laws, wadd, wmul, wneg,
@@ -84,6 +85,7 @@ fn weighted_sums(rt: HostRuntime) {
 
 #[test]
 fn laws_are_free() {
+    laws();
     ring_laws();
     residue_laws();
     size_laws();

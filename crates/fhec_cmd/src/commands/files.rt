@@ -1,12 +1,12 @@
 //! Files that a command reads and writes.
 
-ghost use Rattle.std.specs.Prelude.{◌≡◌, ◌≤◌, ◌<◌, ◌⊎◌, length, Option, Some, None, All, IsErrOf};
-ghost use Rattle.port_store.specs.Files.{Files, Told, IsWritten, MayBeWritten};
-ghost use Rattle.port_store.specs.Faults.{Rises};
-ghost use Rattle.fhec_cmd.specs.Outcome.{reading};
-ghost use Rattle.fhec_cmd.specs.Steps.{Gives};
+ghost use Rattle.std.specs.Prelude.{◌<◌, [], ◌∷◌, All};
+ghost use Rattle.fhec_cmd.specs.Outcome.{reading, wrote};
+ghost use Rattle.fhec_cmd.specs.Outside.{store_at};
+ghost use Rattle.fhec_cmd.specs.Steps.{ReadsAs, WritesAs};
 
-use crate::status::{LimitFault, LimitName, Status};
+use crate::fault::{Fault, LimitFault, LimitName, StepRefusal};
+use crate::status::Status;
 use port_store::{PortFault, ReadRefusal, Store, read_whole, write_whole};
 use std::alloc::Global;
 
@@ -22,36 +22,31 @@ pub fn read_file<S: Store>(
     store: &mut S,
     name: &str,
     most: u64,
-) -> Result<Vec<u8>, Status>
-    ensures told { (files : Files) → S.files store.old ≡ Some files → Gives (Rises (S.read_faults store.old) (S.read_faults store.new)) (λ v. v.items) result (reading files name.now most) }
-    ensures untold { S.files store.old ≡ None → IsErrOf result Status.Read → Rises (S.read_faults store.old) (S.read_faults store.new) }
-    ensures no_write { IsErrOf result Status.Write → ⊥ }
-    ensures no_ok { IsErrOf result Status.Ok → ⊥ }
-    ensures fault { S.read_faults store.old < S.read_faults store.new → IsErrOf result Status.Read ⊎ IsErrOf result Status.Memory }
-    ensures files { S.files store.new ≡ S.files store.old }
-    ensures never_fall { S.read_faults store.old ≤ S.read_faults store.new }
-    ensures write_faults { S.write_faults store.new ≡ S.write_faults store.old }
+) -> Result<Vec<u8>, StepRefusal>
+    ensures { ReadsAs (name.now ∷ [])
+        (store_at S.files S.shown S.read_faults S.write_faults store.old)
+        (store_at S.files S.shown S.read_faults S.write_faults store.new)
+        (λ v. v.items) result (λ files. reading files name.now most) }
 {
+    port_store::laws::laws();
     match read_whole(alloc, store, name, most) {
         Ok(bytes) => Ok(bytes),
-        Err(ReadRefusal::Failed) => Err(Status::Read),
-        Err(ReadRefusal::Memory) => Err(Status::Memory),
-        Err(ReadRefusal::Above { size }) => Err(Status::Limit(LimitFault {
+        Err(ReadRefusal::Failed) => Err(StepRefusal::Failure),
+        Err(ReadRefusal::Memory) => Err(StepRefusal::Memory),
+        Err(ReadRefusal::Above { size }) => Err(StepRefusal::Fault(Fault::Limit(LimitFault {
             what: LimitName::Bytes,
             count: u128::from(size),
             most: u128::from(most),
-        })),
+        }))),
     }
 }
 
-/// Writes a whole file, and answers that it was written, that a call failed, or that memory ran out.
+/// Writes one whole file, which is all that a command does; and answers that it was written, that a call failed, or
+/// that memory ran out.
 pub fn write_file<S: Store>(store: &mut S, name: &str, bytes: &[u8]) -> Status
-    ensures answer { (result ≡ Status.Ok) ⊎ ((result ≡ Status.Write) ⊎ (result ≡ Status.Memory)) }
-    ensures written { result ≡ Status.Ok → Told (IsWritten name.now bytes.now) (S.files store.old) (S.files store.new) }
-    ensures part { (result ≡ Status.Write) ⊎ (result ≡ Status.Memory) → Told (MayBeWritten name.now bytes.now) (S.files store.old) (S.files store.new) }
-    ensures fault { result ≡ Status.Write → Rises (S.write_faults store.old) (S.write_faults store.new) }
-    ensures ok { result ≡ Status.Ok → S.write_faults store.new ≡ S.write_faults store.old }
-    ensures read_faults { S.read_faults store.new ≡ S.read_faults store.old }
+    ensures { WritesAs (wrote name.now bytes.now) result
+        (store_at S.files S.shown S.read_faults S.write_faults store.old)
+        (store_at S.files S.shown S.read_faults S.write_faults store.new) }
 {
     match write_whole(store, name, bytes) {
         Ok(()) => Status::Ok,

@@ -7,11 +7,11 @@ use Rattle.ir_core.proofs.Kept.{inserted_keeps}
 use Rattle.ir_core.proofs.Graph.push.Goals as goal
 
 -- a push puts the operation in at the end
-pub invariant_of-self-2 : goal.invariant_of-self-2
-invariant_of-self-2 g c =
+pub invariant_of-self : goal.invariant_of-self
+invariant_of-self g c =
     let list = c.self.inside.entries.items in
     let operands = g.L.Level.operands in
     let there = rw (← c.self.view_is) at c.requires.there in
     let left = rw (← c.self.view_is) at c.requires.numbers_left in
-    rw (c.in_ok-push.ensures.items, ← insert_end list (c.self.inside.made, c.args.op))
+    rw (c.in-Ok.ensures.items, ← insert_end list (c.self.inside.made, c.args.op))
     (inserted_keeps operands list c.self.inside.made (length list) c.args.op c.self.invariant (omega arith) (λ value held. place_within list value (All-contains (Holds list) (operands c.args.op) value there held)) c.requires.few (omega (arith, left)))

@@ -1,9 +1,8 @@
-use Rattle.std.proofs.Common.{◌<◌, ◌≤◌, length, get_or, arith, ap, sym, ◌∙◌}
+use Rattle.std.proofs.Common.{◌<◌, ◌≤◌, cond, length, get_or, arith, ap, ◌∙◌}
 use Rattle.word_ring.specs.Words.{word_difference}
 use Rattle.lwe_core.specs.Phase.{phase_of}
-use Rattle.lwe_core.proofs.PhaseParts.{phase_step_one, phase_step_zero, first_masked-all}
+use Rattle.lwe_core.proofs.PhaseParts.{phase_step, first_masked-all}
 use Rattle.lwe_core.proofs.phases.phase.Goals as goal
-use Rattle.lwe_core.proofs.phases.phase.Goals.{then-bit, else-bit}
 
 pub loop-i-preserved : goal.loop-i-preserved
 loop-i-preserved g c =
@@ -11,10 +10,7 @@ loop-i-preserved g c =
     let words = c.words-words.result.now in
     let in_key : c.loop-i.i < length key = omega (arith, c.len-i-end.ensures, c.loop-i-test.true) in
     let in_words : c.loop-i.i < length words = omega (arith, ap length c.words-words.ensures, c.requires, in_key) in
-    elim c.if-bit.branch [
-      | then-bit w ↦ w.phase-is ∙ w.wsub-phase.ensures ∙ phase_step_one (get_or words (length key) 0) c.loop-i.i key words c.loop-i.phase in_key in_words (sym c.bit.ensures ∙ w.if-bit.true) c.loop-i.invariant
-      | else-bit w ↦ w.phase-is ∙ phase_step_zero (get_or words (length key) 0) c.loop-i.i key words c.loop-i.phase in_key in_words (sym c.bit.ensures ∙ w.if-bit.false) c.loop-i.invariant
-    ]
+    c.without_masked-phase.ensures ∙ ap (λ bit. word_difference c.loop-i.phase (cond bit (get_or words c.loop-i.i 0) 0)) c.bit.ensures ∙ phase_step (get_or words (length key) 0) c.loop-i.i key words c.loop-i.phase in_key in_words c.loop-i.invariant
 
 pub returns : goal.returns
 returns g c =

@@ -1,5 +1,6 @@
 use Rattle.negacyclic.proofs.Polynomials as polynomials
 use Rattle.negacyclic.proofs.Rotations.{product_by_rotations}
+use Rattle.negacyclic.proofs.RotatedProducts as rotated
 use Rattle.negacyclic.proofs.laws.product_laws.Goals as goal
 
 pub returns : goal.returns
@@ -16,4 +17,9 @@ returns c = record {
   scaled_product = polynomials.scaled_product;
   product_scaled = polynomials.product_scaled;
   product_by_rotations = product_by_rotations;
+  product_zero = rotated.product_zero;
+  product_one = rotated.product_one;
+  product_coefficient = rotated.product_coefficient;
+  first_additive = rotated.first_additive c.row_laws.ensures;
+  second_additive = rotated.second_additive c.row_laws.ensures;
 }

@@ -6,4 +6,6 @@ returns c = record {
   product_size = sizes.product_size c.size_laws.ensures;
   rotation_size = sizes.rotation_size;
   rotation_bound = sizes.rotation_bound;
+  product_bound = sizes.product_bound c.size_laws.ensures;
+  product_with_bits = sizes.product_with_bits c.size_laws.ensures;
 }

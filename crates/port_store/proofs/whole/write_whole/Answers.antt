@@ -19,6 +19,7 @@ loop-written-preserved g c =
           (IsWritten-appended _ _ _ _ _ _ c.loop-written.invariant.told c.in_ok-append.ensures.appended);
       reads = c.in_ok-append.ensures.no_read ∙ c.loop-written.invariant.reads;
       writes = c.in_ok-append.ensures.ok ∙ c.loop-written.invariant.writes;
+      account = c.in_ok-append.ensures.account ∙ c.loop-written.invariant.account;
     }
 
 pub returns-in_err-append-clause-err : goal.returns-in_err-append-clause-err

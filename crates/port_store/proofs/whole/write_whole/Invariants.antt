@@ -11,6 +11,7 @@ invariant-loop-written g l =
       told : Told (IsWritten l.name (take l.written l.bytes)) (store.files l.fn.store) (store.files l.store);
       reads : store.read_faults l.store ≡ store.read_faults l.fn.store;
       writes : store.write_faults l.store ≡ store.write_faults l.fn.store;
+      account : store.shown l.store ≡ store.shown l.fn.store;
     }
 
 abbrev pub decreases-loop-written : goal.decreases-loop-written

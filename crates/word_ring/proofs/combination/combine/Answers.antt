@@ -39,6 +39,6 @@ loop-weight-preserved g c =
     record {
       shape = c.add_scaled.ensures.shape ∙ c.loop-weight.invariant.shape;
       words =
-          combined_step (g.T.Lin.words c.args.into.now) c.args.weights.now rows k _ c.in-Some.weight.now (g.T.Lin.words c.index-values-place.result) _ _
-          turn.0 (omega (arith, length-map {A = ℕ} {B = List ℕ}, turn.1)) (length_push c.loop-weight.yielded (c.in-Some.weight, c.in-Some.place)) (turn.2 0) row long c.loop-weight.invariant.words c.add_scaled.ensures.words;
+          combined_step (g.T.Lin.words c.args.into.now) c.args.weights.now rows k _ _ (g.T.Lin.words c.index-values-place.result) _ _
+          turn.0 (omega (arith, length-map {A = ℕ} {B = List ℕ}, turn.1)) (length_push c.loop-weight.yielded (c.in-Some.weight, c.in-Some.place)) (omega (arith, turn.2 0)) row long c.loop-weight.invariant.words c.add_scaled.ensures.words;
     }

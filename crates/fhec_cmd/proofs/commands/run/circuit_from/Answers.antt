@@ -1,16 +1,27 @@
 use Rattle.std.proofs.lemmas.Result.{err_from_is_err_and}
-use Rattle.fhec_cmd.specs.Outcome.{reading}
-use Rattle.fhec_cmd.specs.Run.{circuit_from, circuit_in, circuit_limit}
-use Rattle.fhec_cmd.proofs.StepLemmas.{refused_first, given_wider, given_next}
+use Rattle.circuit_file.specs.CircuitReading.{circuit_of}
+use Rattle.fhec_cmd.specs.declared.fault.Fault.TheVariants as fault
+use Rattle.fhec_cmd.specs.Outcome.{as_fault, reading}
+use Rattle.circuit_file.specs.Limits.{circuit_limit}
+use Rattle.fhec_cmd.specs.Run.{circuit_from}
+use Rattle.fhec_cmd.proofs.StepLemmas.{reads_refused, reads_then, reads_nothing, of_part}
 use Rattle.fhec_cmd.proofs.commands.run.circuit_from.Goals as goal
 
-pub returns-in_err-text-clause-told : goal.returns-in_err-text-clause-told
+pub returns-in_err-text-clause-reads : goal.returns-in_err-text-clause-reads
 unfolding circuit_from
-returns-in_err-text-clause-told g c = λ files e.
+returns-in_err-text-clause-reads g c =
     let p = err_from_is_err_and c.from_residual.result c.from_residual.ensures.1 in
-    rw (p.1, p.2) (refused_first _ _ (reading files c.args.name.now circuit_limit) circuit_in (c.in_err-text.ensures.told files e))
+    rw (p.1, p.2) (reads_refused _ _ _ _ _ _ (λ files. reading files c.args.name.now circuit_limit) (λ files text. as_fault fault.Circuit (circuit_of text)) c.in_err-text.ensures)
 
-pub returns-clause-told : goal.returns-clause-told
+pub returns-in_err-circuit_in-clause-reads : goal.returns-in_err-circuit_in-clause-reads
 unfolding circuit_from
-returns-clause-told g c = λ files e.
-    given_next _ _ _ _ _ circuit_in (c.in_ok-text.ensures.told files e) (given_wider ⊥ _ (λ x. absurd x) _ _ _ (rw c.deref.ensures.value at c.circuit_in.ensures.circuit))
+returns-in_err-circuit_in-clause-reads g c =
+    let p = err_from_is_err_and c.from_residual-in_err-circuit_in.result c.from_residual-in_err-circuit_in.ensures.1 in
+    rw (p.1, p.2) (reads_then _ _ _ _ _ _ _ (λ files. reading files c.args.name.now circuit_limit) (λ files text. as_fault fault.Circuit (circuit_of text)) c.in_ok-text.ensures
+    (reads_nothing _ _ _ _ (of_part _ _ (rw c.deref.ensures.value at c.in_err-circuit_in.ensures.circuit))))
+
+pub returns-clause-reads : goal.returns-clause-reads
+unfolding circuit_from
+returns-clause-reads g c =
+    reads_then _ _ _ _ _ _ _ (λ files. reading files c.args.name.now circuit_limit) (λ files text. as_fault fault.Circuit (circuit_of text)) c.in_ok-text.ensures
+    (reads_nothing _ _ _ _ (rw c.deref.ensures.value at c.in_ok-circuit_in.ensures.circuit))

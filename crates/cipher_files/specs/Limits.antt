@@ -1,0 +1,30 @@
+-- The limits of files, and how long they are.
+use Rattle.std.specs.Prelude.{ℕ, ◌+◌, ◌*◌, ◌^◌}
+
+-- the bytes of a file that is no circuit text
+abbrev pub file_limit : ℕ
+file_limit = 2 ^ 29
+
+-- the ciphertexts of a file
+abbrev pub most_ciphertexts : ℕ
+most_ciphertexts = 64
+
+-- the bytes before the ranges: the magic, the digest and three words
+abbrev pub head_size : ℕ
+head_size = 64
+
+-- the bytes of a range: two words
+abbrev pub range_size : ℕ
+range_size = 16
+
+-- the bytes of a ciphertext: a word for each of the mask's, and the body
+abbrev pub ciphertext_size : ℕ → ℕ
+ciphertext_size dim = 8 * (dim + 1)
+
+-- the bytes of the seal
+abbrev pub seal_size : ℕ
+seal_size = 32
+
+-- the bytes of a file of so many ciphertexts of a dimension
+abbrev pub file_size : ℕ → ℕ → ℕ
+file_size dim number = head_size + seal_size + range_size * number + number * ciphertext_size dim

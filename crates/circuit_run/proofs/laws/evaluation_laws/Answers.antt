@@ -1,5 +1,0 @@
-use Rattle.circuit_run.proofs.NodeNoise.{evaluation}
-use Rattle.circuit_run.proofs.laws.evaluation_laws.Goals as goal
-
-pub returns : goal.returns
-returns c = evaluation (record { noise = c.noise_laws.ensures; decoding = c.decoding_laws.ensures; rows = c.row_laws.ensures })

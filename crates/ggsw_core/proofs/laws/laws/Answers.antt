@@ -1,0 +1,21 @@
+use Rattle.ggsw_core.proofs.NoiseParts.{NoiseServing, external_noise, cmux_noise}
+use Rattle.ggsw_core.proofs.Rows.{exchanges}
+use Rattle.ggsw_core.proofs.laws.laws.Goals as goal
+
+pub returns-clause-exchange : goal.returns-clause-exchange
+returns-clause-exchange c = exchanges
+
+pub returns-clause-noise : goal.returns-clause-noise
+returns-clause-noise c =
+    let laws : NoiseServing = record {
+      plain = record { rows = c.laws.ensures.rows; ring = c.laws.ensures.row_ring; totals = c.laws.ensures.row_totals; products = c.laws-2.ensures.products; rotations = c.laws-2.ensures.rotations };
+      sizes = c.laws.ensures.row_sizes;
+      product_sizes = c.laws-2.ensures.sizes;
+      digits = c.laws-3.ensures.polynomials;
+      phases = c.laws-4.ensures.phases;
+      phase_sizes = c.laws-4.ensures.sizes;
+    } in
+    record {
+      external_noise = λ g c n ones bound key bit. external_noise laws n ones bound key bit g c;
+      cmux_noise = λ g acc other n ones bound key bit. cmux_noise laws n ones bound key bit g acc other;
+    }

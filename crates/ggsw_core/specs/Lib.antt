@@ -1,0 +1,2 @@
+pub mod Ggsw
+pub mod Noise

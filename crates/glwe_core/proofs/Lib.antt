@@ -1,0 +1,10 @@
+pub mod PartLoops
+pub mod GlwePhases
+pub mod GlweShapes
+pub mod GlweSizes
+pub mod ExtractionLoops
+pub mod ExtractedPhase
+pub mod KeyLoops
+pub mod PhaseLoops
+pub mod TestSizes
+pub mod Examples

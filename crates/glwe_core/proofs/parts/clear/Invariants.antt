@@ -1,0 +1,9 @@
+use Rattle.std.proofs.Common.{◌≡◌, ◌<◌, ◌≤◌, ℕ, [], get_or, length, replicate}
+use Rattle.glwe_core.proofs.parts.clear.Given as goal
+
+-- the parts below the index are done, and the rest stand as they were
+abbrev pub invariant-loop-i : goal.invariant-loop-i
+invariant-loop-i l = record {
+  done : (k : ℕ) → k < l.i → get_or l.parts k [] ≡ replicate (length (get_or l.fn.parts k [])) 0;
+  rest : (k : ℕ) → l.i ≤ k → get_or l.parts k [] ≡ get_or l.fn.parts k [];
+}

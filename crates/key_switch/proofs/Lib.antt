@@ -1,0 +1,4 @@
+pub mod Places
+pub mod Noise
+pub mod Steps
+pub mod Examples
