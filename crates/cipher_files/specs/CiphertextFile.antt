@@ -35,7 +35,8 @@ words_bytes words = flat_map word_bytes words
 
 -- all bytes of the file before its seal
 abbrev pub ciphertext_file_body : CiphertextFile → List ℕ
-ciphertext_file_body file = magic ++ file.digest ++ word_bytes file.dim ++ word_bytes file.width ++ word_bytes (length file.ranges)
+ciphertext_file_body file =
+    magic ++ file.digest ++ word_bytes file.dim ++ word_bytes file.width ++ word_bytes (length file.ranges)
     ++ flat_map range_bytes file.ranges ++ flat_map words_bytes file.ciphertexts
 
 -- all bytes of the file, sealed by the SHA-256 of those before the seal
@@ -66,4 +67,10 @@ pub record IsCiphertextFile (file : CiphertextFile) : Type 0 where
 
 -- the file of a head and the words of its ciphertexts
 abbrev pub file_of : CipherHead → List (List ℕ) → CiphertextFile
-file_of head list = record { digest = head.digest; dim = head.dim; width = head.width; ranges = head.ranges; ciphertexts = list }
+file_of head list = record {
+  digest = head.digest;
+  dim = head.dim;
+  width = head.width;
+  ranges = head.ranges;
+  ciphertexts = list;
+}

@@ -2,13 +2,11 @@
 
 ghost use Rattle.cipher_files.specs.Laws.{CiphertextFileLaws};
 
-use word_ring::signed_laws;
-
 /// All laws of files. Each file has one spelling, and no bytes spell two files.
 #[inline]
 pub fn laws()
     ensures { CiphertextFileLaws }
 {
     circuit_file::laws::laws();
-    signed_laws();
+    word_ring::laws::laws();
 }

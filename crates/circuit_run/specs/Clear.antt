@@ -16,7 +16,8 @@ value_of_sum values s = s.constant +ℤ int_sum (map (λ t. t.weight *ℤ value_
 
 -- the value of a node
 abbrev pub clear_value : Circuit → List ℤ → ℕ → ℤ
-clear_value c values node = if nat_lt node (length c.inputs) then value_of values node else value_of_sum values (sum_at c node)
+clear_value c values node =
+    if nat_lt node (length c.inputs) then value_of values node else value_of_sum values (sum_at c node)
 
 -- the values of the outputs, in order
 abbrev pub clear_values : Circuit → List ℤ → List ℤ

@@ -16,7 +16,8 @@ row_of rows node = slice_index_or rows node []
 
 -- each weight times its input, added up word by word modulo 2^64
 abbrev pub weighted_row : ℕ → List (List ℕ) → List Term → List ℕ
-weighted_row dim rows terms = combined (replicate (dim + 1) 0) (map (λ t. word_of t.weight) terms) (map (λ t. row_of rows t.node) terms)
+weighted_row dim rows terms =
+    combined (replicate (dim + 1) 0) (map (λ t. word_of t.weight) terms) (map (λ t. row_of rows t.node) terms)
 
 -- the words of a sum: the weighted inputs, and the place of the constant added to the body
 abbrev pub sum_row : ℕ → ℕ → List (List ℕ) → WeightedSum → List ℕ
@@ -24,7 +25,9 @@ sum_row dim width rows s = with_message dim (weighted_row dim rows s.terms) (enc
 
 -- the words of a node
 abbrev pub node_row : Circuit → List (List ℕ) → ℕ → List ℕ
-node_row c rows node = if nat_lt node (length c.inputs) then row_of rows node else sum_row (dimension c.params) c.width rows (sum_at c node)
+node_row c rows node =
+    if nat_lt node (length c.inputs) then row_of rows node
+    else sum_row (dimension c.params) c.width rows (sum_at c node)
 
 -- the words of the outputs, in order
 abbrev pub output_rows : Circuit → List (List ℕ) → List (List ℕ)

@@ -103,7 +103,8 @@ pub fn outputs_of(
     ensures words { IfOk result (λ values. values.items ≡ output_rows circuit.now inputs.now) }
     // As many as there are outputs, each of the circuit's dimension.
     ensures number { IfOk result (λ values. length values.items ≡ length circuit.now.outs) }
-    ensures dim { IfOk result (λ values. All (λ words. length words ≡ dimension_of circuit.now.params + 1) values.items) }
+    ensures dim { IfOk result (λ values.
+        All (λ words. length words ≡ dimension_of circuit.now.params + 1) values.items) }
 {
     let outs = circuit.outs.as_slice();
     let mut values = Vec::with_capacity(alloc, outs.len())?;

@@ -10,5 +10,5 @@ pub fn laws()
     ensures { EvaluationLaws }
 {
     lwe_core::laws::laws();
-    word_ring::row_laws();
+    word_ring::laws::laws();
 }

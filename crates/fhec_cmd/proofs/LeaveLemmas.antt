@@ -17,7 +17,7 @@ use Rattle.fhec_cmd.specs.Steps.{StepRefuses, CanBe, HasRead, StepFailed, ReadsA
 use Rattle.fhec_cmd.proofs.StepLemmas.{alike_self, read_of, no_err}
 
 -- files that a store may hold
-some_files : (told : Option Files) → (files : Files) × AreTold told files
+pub some_files : (told : Option Files) → (files : Files) × AreTold told files
 some_files None = (empty, tt)
 some_files (Some files) = (files, refl)
 

@@ -9,4 +9,5 @@ pub mod Run
 pub mod Commands
 pub mod Outside
 pub mod Headline
+pub mod Laws
 pub mod Steps

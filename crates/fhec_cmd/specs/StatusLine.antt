@@ -44,7 +44,8 @@ line_of (status.Circuit fault) =
     codes "fhec: circuit " ++ (decimal fault.line ++ (codes " " ++ circuit_kind_word fault.kind))
 line_of (status.File kind fault) = codes "fhec: file " ++ (file_kind_word kind ++ (codes " " ++ file_fault_word fault))
 line_of (status.Limit fault) =
-    codes "fhec: limit " ++ (limit_word fault.what ++ (codes " " ++ (decimal fault.count ++ (codes " " ++ decimal fault.most))))
+    codes "fhec: limit "
+    ++ (limit_word fault.what ++ (codes " " ++ (decimal fault.count ++ (codes " " ++ decimal fault.most))))
 line_of status.Read = codes "fhec: read fault"
 line_of status.Write = codes "fhec: write fault"
 line_of status.Memory = codes "fhec: memory"

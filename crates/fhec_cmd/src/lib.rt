@@ -10,6 +10,7 @@ ghost use Rattle.fhec_cmd.specs.Outside.{MayLeave, outside, store_at};
 
 mod commands;
 mod fault;
+pub mod laws;
 mod status;
 mod status_line;
 mod words;

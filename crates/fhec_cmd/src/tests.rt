@@ -164,12 +164,18 @@ fn refuses_words(rt: HostRuntime) -> Result<(), Fail> {
         );
         assert_eq!(rt; store.bytes("output"), Some(b"old".as_slice()));
     }
-    // Evaluation keys for a circuit without a bootstrap, which is seen once the circuit is read.
+    // Evaluation keys for a circuit without a bootstrap, which is seen once the circuit is read, and before the inputs.
     let words = words_of(alloc, "run circuit keys inputs output")?;
-    let mut store = store_of(alloc, CIRCUIT.as_bytes(), &INPUTS)?;
-    let mut sink = MemSink::new(alloc);
-    assert_eq!(rt; fhec(alloc, &words, &mut store, &mut sink), Status::Usage);
-    assert_eq!(rt; store.bytes("output"), Some(b"old".as_slice()));
+    for (circuit, inputs, answer) in [
+        (CIRCUIT.as_bytes(), INPUTS.as_slice(), Status::Usage),
+        (CIRCUIT.as_bytes(), b"".as_slice(), Status::Usage),
+        (b"".as_slice(), INPUTS.as_slice(), CIRCUIT_REFUSED),
+    ] {
+        let mut store = store_of(alloc, circuit, inputs)?;
+        let mut sink = MemSink::new(alloc);
+        assert_eq!(rt; fhec(alloc, &words, &mut store, &mut sink), answer);
+        assert_eq!(rt; store.bytes("output"), Some(b"old".as_slice()));
+    }
     Ok(())
 }
 

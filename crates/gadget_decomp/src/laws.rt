@@ -11,19 +11,3 @@ pub fn laws()
 {
     word_ring::laws::laws();
 }
-
-/// Each word has exactly one decomposition, the one that `digits_of` writes out.
-#[inline]
-pub fn decomposition_laws()
-    ensures { DecompositionLaws }
-{
-    laws();
-}
-
-/// How large digits are, and how far their weighed sum is from the word.
-#[inline]
-pub fn digit_laws()
-    ensures { DigitLaws }
-{
-    laws();
-}

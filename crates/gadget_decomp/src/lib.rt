@@ -9,4 +9,3 @@ pub mod laws;
 mod tests;
 
 pub use digits::{digits_into, poly_digit_into};
-pub use laws::{decomposition_laws, digit_laws};

@@ -1,5 +1,5 @@
 use crate::laws::laws;
-use crate::{decomposition_laws, digit_laws, digits_into, poly_digit_into};
+use crate::{digits_into, poly_digit_into};
 use negacyclic::Poly;
 use std::test::Fail;
 
@@ -76,6 +76,4 @@ fn digits_of_polynomials(rt: HostRuntime) -> Result<(), Fail> {
 #[test]
 fn laws_are_free() {
     laws();
-    decomposition_laws();
-    digit_laws();
 }

@@ -33,7 +33,11 @@ pub record IsGgsw (g : GgswRows) : Type 0 where
 
 -- the one whose rows are 0, of so many parts of n words each
 abbrev pub zero_ggsw : ℕ → ℕ → ℕ → ℕ → GgswRows
-zero_ggsw parts n base level = record { base = base; level = level; rows = replicate (parts * level) (replicate parts (replicate n 0)) }
+zero_ggsw parts n base level = record {
+  base = base;
+  level = level;
+  rows = replicate (parts * level) (replicate parts (replicate n 0));
+}
 
 -- the one with another row of part j at place t
 abbrev pub with_row : GgswRows → ℕ → ℕ → List (List ℕ) → GgswRows
@@ -49,7 +53,8 @@ plus_all into terms = zip_rows row_sum into (sum_of_glwes (length into) (degree_
 
 -- digit t of the coefficients of part j, times the row of that part and place
 abbrev pub row_product : GgswRows → List (List ℕ) → ℕ → ℕ → List (List ℕ)
-row_product g c j t = map (negacyclic_product (digit_polynomial g.base g.level t (slice_index_or c j []))) (row_of g j t)
+row_product g c j t =
+    map (negacyclic_product (digit_polynomial g.base g.level t (slice_index_or c j []))) (row_of g j t)
 
 -- these, for the places of one part
 abbrev pub part_products : GgswRows → List (List ℕ) → ℕ → List (List (List ℕ))

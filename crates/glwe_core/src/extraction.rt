@@ -13,7 +13,8 @@ use word_ring::wneg;
 #[inline]
 fn mask_word(words: &[u64], at: usize) -> u64
     requires { at < length words.now }
-    ensures { result ≡ (if at == 0 then slice_index words.now 0 else word_negation (slice_index words.now (length words.now - at))) }
+    ensures { result ≡ (if at == 0 then slice_index words.now 0
+        else word_negation (slice_index words.now (length words.now - at))) }
 {
     if at == 0 {
         words[0]

@@ -27,7 +27,8 @@ StandsBefore list earlier later = place_of list earlier < place_of list later
 -- what every graph keeps, given what the operands of an operation are
 pub record IsGraph {Op : Type 0} (operands : Op → List ℕ) (graph : Operations Op) : Type 0 where
   -- each operand of an operation is the number of an earlier one
-  pub earlier : (user value : ℕ) (op : Op) → Contains graph.list (user, op) → Contains (operands op) value → StandsBefore graph.list value user
+  pub earlier : (user value : ℕ) (op : Op) → Contains graph.list (user, op) → Contains (operands op) value
+      → StandsBefore graph.list value user
   -- no number stands twice
   pub distinct : IsDistinct nat_eq (numbers_of graph.list)
   -- each number there was given
@@ -49,7 +50,10 @@ pushed graph op = record { list = graph.list ++ (graph.made, op) ∷ []; made = 
 
 -- the graph with an operation more just before the one with that number
 abbrev pub inserted_before : {Op : Type 0} → Operations Op → ℕ → Op → Operations Op
-inserted_before graph later op = record { list = insert graph.list (place_of graph.list later) (graph.made, op); made = graph.made + 1 }
+inserted_before graph later op = record {
+  list = insert graph.list (place_of graph.list later) (graph.made, op);
+  made = graph.made + 1;
+}
 
 -- the graph without the operation of that number
 abbrev pub erased : {Op : Type 0} → Operations Op → ℕ → Operations Op
@@ -65,15 +69,20 @@ renamed_in operands with_operands from to op = with_operands op (map (renamed fr
 
 -- operations with one value put for another in each operand of each
 abbrev pub renamed_list : {Op : Type 0} → (Op → List ℕ) → (Op → List ℕ → Op) → ℕ → ℕ → List (ℕ × Op) → List (ℕ × Op)
-renamed_list operands with_operands from to list = map (λ entry. (entry.0, renamed_in operands with_operands from to entry.1)) list
+renamed_list operands with_operands from to list =
+    map (λ entry. (entry.0, renamed_in operands with_operands from to entry.1)) list
 
 -- the graph with one value put for another in each operand of each operation
 abbrev pub uses_replaced : {Op : Type 0} → (Op → List ℕ) → (Op → List ℕ → Op) → Operations Op → ℕ → ℕ → Operations Op
-uses_replaced operands with_operands graph from to = record { list = renamed_list operands with_operands from to graph.list; made = graph.made }
+uses_replaced operands with_operands graph from to = record {
+  list = renamed_list operands with_operands from to graph.list;
+  made = graph.made;
+}
 
 -- the uses of a value among operands whose places are counted from `place`: the user, and the operand's place
 abbrev pub uses_from : ℕ → ℕ → List ℕ → ℕ → List (ℕ × ℕ)
-uses_from place user operands value = map (λ held. (user, held.0)) (filter (λ held. held.1 == value) (enumerate_from place operands))
+uses_from place user operands value =
+    map (λ held. (user, held.0)) (filter (λ held. held.1 == value) (enumerate_from place operands))
 
 -- the uses of a value, operation after operation: each user with each place among its operands that holds the value
 abbrev pub uses_of : {Op : Type 0} → (Op → List ℕ) → List (ℕ × Op) → ℕ → List (ℕ × ℕ)

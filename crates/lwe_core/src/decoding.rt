@@ -4,7 +4,7 @@ ghost use Rattle.std.specs.Prelude.{◌≡◌, ◌≤◌, ◌-◌, ◌^◌};
 ghost use Rattle.word_ring.specs.Words.{word_sum, word_difference};
 ghost use Rattle.lwe_core.specs.Decoding.{decoded, encoded};
 
-use word_ring::{signed_laws, wadd, wmul, word_of, wsub};
+use word_ring::{wadd, wmul, word_of, wsub};
 
 /// The place of a value at a width: `value * 2^(63-width)` modulo 2^64 (Chillotti et al. 2020, the encoding of a
 /// message on the torus).
@@ -42,6 +42,6 @@ pub fn decode(phase: u64, width: u32, lo: i64) -> u32
     requires high { width ≤ 16 }
     ensures { result ≡ decoded phase width lo }
 {
-    signed_laws();
+    word_ring::laws::laws();
     (distance(phase, width, lo) >> (63 - width)) as u32
 }

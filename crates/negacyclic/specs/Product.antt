@@ -11,11 +11,13 @@ sum_below (suc n) f = sum_below n f + f n
 
 -- the sum over all pairs i + j = s of p_i * q_j, in ℕ
 abbrev pub pair_sum : List ℕ → List ℕ → ℕ → ℕ
-pair_sum p q s = sum_below (length p) (λ i. sum_below (length q) (λ j. if i + j == s then slice_index p i * slice_index q j else 0))
+pair_sum p q s = sum_below (length p) (λ i.
+    sum_below (length q) (λ j. if i + j == s then slice_index p i * slice_index q j else 0))
 
 -- p times q: coefficient c is the sum over all i + j = c of p_i * q_j minus that over all i + j = c + N
 unfoldable pub negacyclic_product : List ℕ → List ℕ → List ℕ
-negacyclic_product p q = map (λ c. word_difference (pair_sum p q c) (pair_sum p q (c + length p))) (range_with_len 0 (length p))
+negacyclic_product p q =
+    map (λ c. word_difference (pair_sum p q c) (pair_sum p q (c + length p))) (range_with_len 0 (length p))
 
 -- coefficient c of X^by, of n coefficients: 1 at the place by modulo 2n, or -1 where that place is c + n
 unfoldable pub monomial_coefficient : ℕ → ℕ → ℕ → ℕ
@@ -31,4 +33,7 @@ rotation by p = negacyclic_product (monomial (length p) by) p
 
 -- coefficient k of p at any k, where coefficient k + N is minus coefficient k
 abbrev pub coefficient : List ℕ → ℕ → ℕ
-coefficient p k = let place = k % (2 * length p) in if nat_lt place (length p) then slice_index p place % 2 ^ 64 else word_negation (slice_index p (place - length p))
+coefficient p k =
+    let place = k % (2 * length p) in
+    if nat_lt place (length p) then slice_index p place % 2 ^ 64
+    else word_negation (slice_index p (place - length p))

@@ -5,7 +5,7 @@ ghost use Rattle.word_ring.specs.Rows.{row_sum};
 ghost use Rattle.negacyclic.specs.Product.{negacyclic_product};
 ghost use Rattle.negacyclic.specs.FullProduct.{full_product, second_quarter, third_quarter};
 
-use word_ring::{row_laws, rows};
+use word_ring::rows;
 
 /// The logarithm to base 2 of the number of coefficients from which a polynomial is split no further.
 pub const LEAF_LOG_N: u32 = 3;
@@ -93,7 +93,7 @@ fn set_sum(into: &mut [u64], a: &[u64], b: &[u64])
     requires second { length b.now ≡ length into.old }
     ensures { into.new ≡ row_sum a.now b.now }
 {
-    row_laws();
+    word_ring::laws::laws();
     for (i, word) in into.iter_mut().enumerate() {
         *word = a[i].wrapping_add(b[i]);
     }
@@ -117,12 +117,12 @@ fn join(
     ensures second { second.new ≡ second_quarter first.now second.old third.old mid_front.now }
     ensures third { third.new ≡ third_quarter second.old third.old fourth.now mid_back.now }
 {
-    row_laws();
     for i in 0..second.len() {
         let difference = second[i].wrapping_sub(third[i]);
         second[i] = difference.wrapping_add(mid_front[i]).wrapping_sub(first[i]);
         third[i] = mid_back[i].wrapping_sub(difference).wrapping_sub(fourth[i]);
     }
+    word_ring::laws::laws();
 }
 
 /// Sets `out` to the product with no reduction, of which the quarters come from three products of halves.
@@ -137,7 +137,7 @@ fn set_full_product(out: &mut [u64], a: &[u64], b: &[u64], work: &mut [u64], lev
         set_product_of_eight(out, a, b);
         return;
     }
-    row_laws();
+    word_ring::laws::laws();
     let h = a.len() / 2;
     let (a_front, a_back) = a.split_at(h);
     let (b_front, b_back) = b.split_at(h);
@@ -164,7 +164,7 @@ pub fn add_product(into: &mut [u64], a: &[u64], b: &[u64], work: &mut [u64], lev
     requires room { length work.old ≡ 6 * length into.old }
     ensures { into.new ≡ row_sum into.old (negacyclic_product a.now b.now) }
 {
-    row_laws();
+    word_ring::laws::laws();
     let n = a.len();
     let (product, rest) = work.split_at_mut(2 * n);
     set_full_product(product, a, b, rest, levels);

@@ -2,8 +2,6 @@
 
 ghost use Rattle.negacyclic.specs.Laws.{ProductLaws, RotationLaws, SumLaws, ProductSizeLaws};
 
-use word_ring::{row_laws, size_laws};
-
 /// All laws of polynomials.
 #[inline]
 pub fn laws()
@@ -19,24 +17,24 @@ pub fn laws()
 
 /// Polynomials are a commutative ring.
 #[inline]
-pub fn product_laws()
+fn product_laws()
     ensures { ProductLaws }
 {
-    row_laws();
+    word_ring::laws::laws();
 }
 
 /// A rotation moves coefficients and turns signs.
 #[inline]
-pub fn rotation_laws()
+fn rotation_laws()
     ensures { RotationLaws }
 {
-    row_laws();
+    word_ring::laws::laws();
 }
 
 /// How products and rotations change the distances to 0, on which every bound on noise stands.
 #[inline]
-pub fn product_size_laws()
+fn product_size_laws()
     ensures { ProductSizeLaws }
 {
-    size_laws();
+    word_ring::laws::laws();
 }

@@ -13,6 +13,5 @@ mod product;
 #[cfg(test)]
 mod tests;
 
-pub use laws::{product_laws, product_size_laws, rotation_laws};
 pub use poly::{Poly, Scratch, mul_add, mul_add_plain, rotate_into};
 pub use word_ring::Lin;

@@ -4,7 +4,7 @@ ghost use Rattle.std.specs.Prelude.{◌≡◌, ◌<◌, ◌*◌, length};
 ghost use Rattle.word_ring.specs.Rows.{row_sum, sum_with_scaled};
 ghost use Rattle.negacyclic.specs.Product.{negacyclic_product, rotation};
 
-use word_ring::{row_laws, rows};
+use word_ring::rows;
 
 /// Adds the product of `a` and `b`: the sum over i of `a[i]` times X^i times `b`.
 pub fn add_product(into: &mut [u64], a: &[u64], b: &[u64])
@@ -13,7 +13,7 @@ pub fn add_product(into: &mut [u64], a: &[u64], b: &[u64])
     ensures { into.new ≡ row_sum into.old (negacyclic_product a.now b.now) }
 {
     rows::known(into);
-    row_laws();
+    word_ring::laws::laws();
     for (i, factor) in a.iter().enumerate() {
         add_rotated(into, b, i, *factor);
     }
@@ -27,7 +27,7 @@ fn add_rotated(into: &mut [u64], b: &[u64], by: usize, factor: u64)
     requires below { by < length into.old }
     ensures { into.new ≡ sum_with_scaled into.old factor (rotation by b.now) }
 {
-    row_laws();
+    word_ring::laws::laws();
     let (front, back) = into.split_at_mut(by);
     let (kept, wrapped) = b.split_at(b.len() - by);
     rows::add_scaled(back, kept, factor);

@@ -216,8 +216,5 @@ fn polynomials_are_rows(rt: HostRuntime) -> Result<(), Fail> {
 
 #[test]
 fn laws_are_free() {
-    product_laws();
-    rotation_laws();
-    product_size_laws();
     laws::laws();
 }

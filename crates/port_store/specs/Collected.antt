@@ -17,7 +17,8 @@ pub record Collected : Type 0 where
 -- as its fields in a row
 abbrev pub collected_code : Coded Collected
 collected_code =
-    code_by (Bytes × (ℕ × (List (ℕ × ℕ) × ℕ))) (coded× (coded_list coded_ℕ) (coded× coded_ℕ (coded× (coded_list (coded× coded_ℕ coded_ℕ)) coded_ℕ)))
+    code_by (Bytes × (ℕ × (List (ℕ × ℕ) × ℕ)))
+    (coded× (coded_list coded_ℕ) (coded× coded_ℕ (coded× (coded_list (coded× coded_ℕ coded_ℕ)) coded_ℕ)))
     (λ c. (c.taken, (c.calls, (c.failures, c.put_faults))))
     (λ p. record { taken = p.0; calls = p.1.0; failures = p.1.1.0; put_faults = p.1.1.1 })
     (λ _. refl)

@@ -51,11 +51,13 @@ MayBeCreated name before after = (after ≡ before) ⊎ IsCreated name before af
 
 -- the file, which is there, has the piece at its end
 abbrev pub IsAppended : Bytes → Bytes → Files → Files → Type 0
-IsAppended name piece before after = MatchOption (get before name) ⊥ (λ bytes. after ≡ insert before name (bytes ++ piece))
+IsAppended name piece before after =
+    MatchOption (get before name) ⊥ (λ bytes. after ≡ insert before name (bytes ++ piece))
 
 -- the file has the beginning of the piece at its end; one that is missing stays so
 abbrev pub MayBeAppended : Bytes → Bytes → Files → Files → Type 0
-MayBeAppended name piece before after = MatchOption (get before name) (after ≡ before) (λ bytes. (kept : ℕ) × (after ≡ insert before name (bytes ++ take kept piece)))
+MayBeAppended name piece before after = MatchOption (get before name) (after ≡ before)
+    (λ bytes. (kept : ℕ) × (after ≡ insert before name (bytes ++ take kept piece)))
 
 -- the file holds these bytes and no others
 abbrev pub IsWritten : Bytes → Bytes → Files → Files → Type 0

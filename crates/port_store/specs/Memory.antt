@@ -20,7 +20,9 @@ pub record Memory : Type 0 where
 -- as its fields in a row
 abbrev pub memory_code : Coded Memory
 memory_code =
-    code_by (Files × (ℕ × (List (ℕ × ℕ) × (ℕ × ℕ)))) (coded× (map.code (coded_list coded_ℕ) (coded_list coded_ℕ)) (coded× coded_ℕ (coded× (coded_list (coded× coded_ℕ coded_ℕ)) (coded× coded_ℕ coded_ℕ))))
+    code_by (Files × (ℕ × (List (ℕ × ℕ) × (ℕ × ℕ))))
+    (coded× (map.code (coded_list coded_ℕ) (coded_list coded_ℕ))
+    (coded× coded_ℕ (coded× (coded_list (coded× coded_ℕ coded_ℕ)) (coded× coded_ℕ coded_ℕ))))
     (λ m. (m.files, (m.calls, (m.failures, (m.read_faults, m.write_faults)))))
     (λ p. record { files = p.0; calls = p.1.0; failures = p.1.1.0; read_faults = p.1.1.1.0; write_faults = p.1.1.1.1 })
     (λ _. refl)
@@ -40,11 +42,16 @@ is_fault memory name = is_some (listed_now memory) && map.contains_key memory.fi
 -- what a call on a file that has to be there answers while memory lasts: it fails where the file is missing or the call
 -- is listed
 abbrev pub file_answer : {A : Type 0} → Memory → Bytes → (Bytes → A) → Result A PortFault
-file_answer memory name value = option_map_or (λ bytes. if is_some (listed_now memory) then Err fault.Failed else Ok (value bytes)) (map.get memory.files name) (Err fault.Failed)
+file_answer memory name value = option_map_or
+    (λ bytes. if is_some (listed_now memory) then Err fault.Failed else Ok (value bytes))
+    (map.get memory.files name) (Err fault.Failed)
 
 -- after a call that reads a file of this name
 abbrev pub after_read : Memory → Bytes → Memory
-after_read memory name = record memory { calls = one_more memory.calls; read_faults = if is_fault memory name then one_more memory.read_faults else memory.read_faults }
+after_read memory name = record memory {
+  calls = one_more memory.calls;
+  read_faults = if is_fault memory name then one_more memory.read_faults else memory.read_faults;
+}
 
 -- how many bytes are there from a place on, at most as many as there is room for
 abbrev pub count_from : ℕ → ℕ → Bytes → ℕ
@@ -56,7 +63,9 @@ filled_from at buffer bytes = take (length buffer) (drop at bytes) ++ drop (coun
 
 -- the buffer after a call that reads at a place: as it was where the call fails
 abbrev pub buffer_after : Memory → Bytes → ℕ → Bytes → Bytes
-buffer_after memory name at buffer = option_map_or (λ bytes. if is_some (listed_now memory) then buffer else filled_from at buffer bytes) (map.get memory.files name) buffer
+buffer_after memory name at buffer = option_map_or
+    (λ bytes. if is_some (listed_now memory) then buffer else filled_from at buffer bytes)
+    (map.get memory.files name) buffer
 
 -- what a call that makes a file answers while memory lasts
 abbrev pub create_answer : Memory → Result Unit PortFault

@@ -30,7 +30,12 @@ impl Model for MemSink {
 
     ghost coded = { collected_code };
 
-    ghost view = { λ s. record { taken = s.taken.items; calls = s.calls; failures = s.failures.items; put_faults = s.put_faults } };
+    ghost view = { λ s. record {
+      taken = s.taken.items;
+      calls = s.calls;
+      failures = s.failures.items;
+      put_faults = s.put_faults;
+    } };
 }
 
 impl MemSink {

@@ -37,7 +37,13 @@ impl Model for MemStore {
 
     ghost coded = { memory_code };
 
-    ghost view = { λ s. record { files = files_of s.files; calls = s.calls; failures = s.failures.items; read_faults = s.read_faults; write_faults = s.write_faults } };
+    ghost view = { λ s. record {
+      files = files_of s.files;
+      calls = s.calls;
+      failures = s.failures.items;
+      read_faults = s.read_faults;
+      write_faults = s.write_faults;
+    } };
 }
 
 impl MemStore {
@@ -108,7 +114,9 @@ impl MemStore {
 
     // Adds a piece at the end of a file, which stays as it is where memory runs out.
     fn add(&mut self, name: &str, piece: &[u8]) -> Result<(), PortFault>
-        ensures after { self.new ≡ record self.old { files = if is_ok result then extended self.old.files name.now piece.now else self.old.files } }
+        ensures after { self.new ≡ record self.old {
+          files = if is_ok result then extended self.old.files name.now piece.now else self.old.files;
+        } }
         ensures only_memory { IfErr result (λ fault. fault ≡ PortFault.Memory) }
     {
         unless_memory(extend(&mut self.files, name, piece))
@@ -153,7 +161,8 @@ impl Store for MemStore {
         ensures never_fall { self.old.read_faults ≤ self.new.read_faults }
         ensures no_write { self.new.write_faults ≡ self.old.write_faults }
         ensures room { IfOk result (λ count. count ≤ length buffer.old) }
-        ensures copied { IfOk result (λ count. OfFile (Some self.old.files) name.now (λ bytes. Copies bytes at buffer.new count)) }
+        ensures copied { IfOk result (λ count.
+            OfFile (Some self.old.files) name.now (λ bytes. Copies bytes at buffer.new count)) }
         ensures ok { OnOk result (self.new.read_faults ≡ self.old.read_faults) }
         ensures failed { IsErrOf result PortFault.Failed → MayHold (Some self.old.files) name.now
             → Rises self.old.read_faults self.new.read_faults }
@@ -190,9 +199,11 @@ impl Store for MemStore {
 
         ensures never_fall { self.old.write_faults ≤ self.new.write_faults }
         ensures no_read { self.new.read_faults ≡ self.old.read_faults }
-        ensures appended { OnOk result (Told (IsAppended name.now bytes.now) (Some self.old.files) (Some self.new.files)) }
+        ensures appended { OnOk result
+            (Told (IsAppended name.now bytes.now) (Some self.old.files) (Some self.new.files)) }
         ensures ok { OnOk result (self.new.write_faults ≡ self.old.write_faults) }
-        ensures err { OnErr result (Told (MayBeAppended name.now bytes.now) (Some self.old.files) (Some self.new.files)) }
+        ensures err { OnErr result
+            (Told (MayBeAppended name.now bytes.now) (Some self.old.files) (Some self.new.files)) }
         ensures failed { IsErrOf result PortFault.Failed → MayHold (Some self.old.files) name.now
             → Rises self.old.write_faults self.new.write_faults }
         ensures missing { IsMissing (Some self.old.files) name.now → self.new.write_faults ≡ self.old.write_faults }

@@ -43,7 +43,8 @@ pub trait Store {
         ensures never_fall { read_faults self.old ≤ read_faults self.new }
         ensures no_write { write_faults self.new ≡ write_faults self.old }
         ensures room { IfOk result (λ count. count ≤ length buffer.old) }
-        ensures copied { IfOk result (λ count. OfFile (files self.old) name.now (λ bytes. Copies bytes at buffer.new count)) }
+        ensures copied { IfOk result (λ count.
+            OfFile (files self.old) name.now (λ bytes. Copies bytes at buffer.new count)) }
         ensures account { Accounts (after_read_at name.now at buffer.new result) (shown self.old) (shown self.new) }
         ensures ok { OnOk result (read_faults self.new ≡ read_faults self.old) }
         ensures failed { IsErrOf result PortFault.Failed → MayHold (files self.old) name.now

@@ -28,8 +28,10 @@ pub fn read_whole<S: Store>(
     ensures size { IfAbove result (λ size. OfFile (S.files store.old) name.now (λ bytes. size ≡ length bytes)) }
 
     // On every store that keeps account of what its calls gave, the bytes are those that `read_at` gave, in order.
-    ensures shown { IfOk result (λ v. Accounts (λ account. whole name.now v.items ∷ account) (S.shown store.old) (S.shown store.new)) }
-    ensures sized { IfAbove result (λ size. Accounts (λ account. sized name.now size ∷ account) (S.shown store.old) (S.shown store.new)) }
+    ensures shown { IfOk result (λ v.
+        Accounts (λ account. whole name.now v.items ∷ account) (S.shown store.old) (S.shown store.new)) }
+    ensures sized { IfAbove result (λ size.
+        Accounts (λ account. sized name.now size ∷ account) (S.shown store.old) (S.shown store.new)) }
     ensures unseen { IsMissing (S.files store.old) name.now
         → Accounts (λ account. account) (S.shown store.old) (S.shown store.new) }
 

@@ -54,7 +54,8 @@ pub record DrawLaws : Type 0 where
   -- and then the stream has made n + 1
   pub after : (key : List ℕ) (n : ℕ) → after_draw (stream_at key n) ≡ stream_at key (n + 1)
   -- so n calls after the first `made` give the draws made, made + 1, .., made + n - 1
-  pub in_order : (key : List ℕ) (made n : ℕ) → next_draws n (stream_at key made) ≡ map (draw key) (range_with_len made n)
+  pub in_order : (key : List ℕ) (made n : ℕ)
+      → next_draws n (stream_at key made) ≡ map (draw key) (range_with_len made n)
   -- and n calls from the start give the draws 0, 1, .., n - 1 of the seed and the label
   pub from_start : (seed label : List ℕ) (n : ℕ)
       → next_draws n (stream_at (stream_key seed label) 0) ≡ map (draw_of seed label) (range_with_len 0 n)

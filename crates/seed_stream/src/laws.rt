@@ -4,6 +4,6 @@ ghost use Rattle.seed_stream.specs.Draws.{DrawLaws};
 
 /// What a stream gives is a function of its key: the calls give draw 0, 1, 2 and so on.
 #[inline]
-pub fn draw_laws()
+pub fn laws()
     ensures { DrawLaws }
 {}

@@ -4,10 +4,9 @@
 //! `stream` has the stream and its draws, `laws` what a list of draws is.
 #![tactic(auto)]
 
-mod laws;
+pub mod laws;
 mod stream;
 #[cfg(test)]
 mod tests;
 
-pub use laws::draw_laws;
 pub use stream::Stream;

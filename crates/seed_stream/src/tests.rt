@@ -1,5 +1,5 @@
 use crate::stream::error_from;
-use crate::{Stream, draw_laws};
+use crate::{Stream, laws};
 use rand_chacha::ChaCha20Rng;
 use rand_core::SeedableRng;
 use rand_core::utils::NextWord;
@@ -100,7 +100,7 @@ fn error_of_each_remainder(rt: HostRuntime) {
 
 #[test]
 fn streams_differ_by_label_and_seed(rt: HostRuntime) -> Result<(), Fail> {
-    draw_laws();
+    laws::laws();
     let mut one = Stream::of(&ZERO, "fhec big");
     one.known();
     let shown = format!(in rt.alloc(); "{one:?}")?;

@@ -16,7 +16,6 @@ mod tests;
 mod words;
 
 pub use combination::combine;
-pub use laws::{centred_laws, residue_laws, ring_laws, row_laws, signed_laws, size_laws};
 pub use lin::Lin;
-pub use rounding::{mod_switch, round_to, rounding_laws, switching_laws};
+pub use rounding::{mod_switch, round_to};
 pub use words::{centred, wadd, wmul, wneg, word_of, wsub};

@@ -1,9 +1,5 @@
 use crate::laws::laws;
-use crate::{
-    Lin, centred, centred_laws, combine, mod_switch, residue_laws, ring_laws, round_to,
-    rounding_laws, row_laws, rows, signed_laws, size_laws, switching_laws, wadd, wmul, wneg,
-    word_of, wsub,
-};
+use crate::{Lin, centred, combine, mod_switch, round_to, rows, wadd, wmul, wneg, word_of, wsub};
 
 /// The word of -1.
 const MINUS_ONE: u64 = 0xffff_ffff_ffff_ffff;
@@ -86,14 +82,6 @@ fn weighted_sums(rt: HostRuntime) {
 #[test]
 fn laws_are_free() {
     laws();
-    ring_laws();
-    residue_laws();
-    size_laws();
-    centred_laws();
-    rounding_laws();
-    switching_laws();
-    row_laws();
-    signed_laws();
 }
 
 #[test]

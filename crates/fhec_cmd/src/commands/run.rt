@@ -75,7 +75,8 @@ fn ciphertexts_in(
     alloc: Global,
     bytes: &[u8],
 ) -> Result<(CipherHead, Vec<Lwe<Big>>), Refusal<Fault>>
-    ensures file { Gives (λ read. file_of read.0 read.1.items) result (as_fault (λ f. Fault.File FileKind.Cipher f) (ciphertext_file_of bytes.now)) }
+    ensures file { Gives (λ read. file_of read.0 read.1.items) result
+        (as_fault (λ f. Fault.File FileKind.Cipher f) (ciphertext_file_of bytes.now)) }
     ensures limits { IfOk result (λ read. HasFileLimits (file_of read.0 read.1.items)) }
 {
     match read_cipher(alloc, bytes) {
@@ -185,7 +186,8 @@ fn output_from<S: Store>(
         (store_at S.files S.shown S.read_faults S.write_faults store.old)
         (store_at S.files S.shown S.read_faults S.write_faults store.new)
         (λ v. v.items) result (run_output (run_view names.now)) }
-    ensures bytes { IfOk result (λ _. (files : Files) → S.files store.old ≡ Some files → HoldsBytes files names.now.cipher.now) }
+    ensures bytes { IfOk result (λ _. (files : Files)
+        → S.files store.old ≡ Some files → HoldsBytes files names.now.cipher.now) }
 {
     let circuit = circuit_from(alloc, store, names.circuit)?;
     if !is_no_eval(names.eval) {

@@ -5,7 +5,7 @@ use Rattle.cipher_files.proofs.laws.laws.Goals as goal
 
 pub returns : goal.returns
 returns c =
-    let lower : LowerLaws = record { signed = c.signed_laws.ensures; ranges = c.laws.ensures.ranges } in
+    let lower : LowerLaws = record { signed = c.laws-2.ensures.signed; ranges = c.laws.ensures.ranges } in
     record {
       read = λ bytes file all found. file_taken lower bytes file (IsBytes-from_all bytes all) found;
       spelled = file_again lower;

@@ -2,4 +2,4 @@ use Rattle.circuit_run.proofs.NodeNoise.{evaluation}
 use Rattle.circuit_run.proofs.laws.laws.Goals as goal
 
 pub returns : goal.returns
-returns c = evaluation (record { noise = c.laws.ensures.noise; decoding = c.laws.ensures.decoding; rows = c.row_laws.ensures })
+returns c = evaluation (record { noise = c.laws.ensures.noise; decoding = c.laws.ensures.decoding; rows = c.laws-2.ensures.rows })

@@ -7,7 +7,7 @@ use Rattle.lwe_core.proofs.decoding.decode.Goals as goal
 
 pub returns : goal.returns
 returns c =
-    decoded_is c.signed_laws.ensures c.args.phase c.args.width c.distance.result c.args.lo
+    decoded_is c.laws.ensures.signed c.args.phase c.args.width c.distance.result c.args.lo
     (c.distance.ensures ∙ ap (λ lo. word_sum (word_difference c.args.phase (encoded c.args.width lo)) (2 ^ (62 - c.args.width))) (to_z-of_z w64 c.args.lo c.ranges.lo))
 
 pub overflow_cast-result-2 : goal.overflow_cast-result-2

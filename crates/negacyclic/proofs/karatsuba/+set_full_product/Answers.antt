@@ -17,5 +17,5 @@ returns t c =
     let h : ℕ = length c.args.a.now / 2 in
     let even : length c.args.a.now ≡ h + h = omega (arith, halved c.args.levels (omega arith)) in
     cc
-    (put_together c.row_laws.ensures h c.args.a.now c.args.b.now c.set_full_product.new.out c.set_full_product-2.new.out c.set_full_product-3.new.out even (c.requires.second ∙ even)
+    (put_together c.laws.ensures.rows h c.args.a.now c.args.b.now c.set_full_product.new.out c.set_full_product-2.new.out c.set_full_product-3.new.out even (c.requires.second ∙ even)
     (record { first = (cc); second = (cc); sums = (cc) }))

@@ -17,10 +17,10 @@ returns c = record {
   rotation_residue = rotated.rotation_residue;
   rotation_half = rotated.rotation_half;
   rotation_zero = rotated.rotation_zero;
-  rotation_sum = rotated.rotation_sum c.row_laws.ensures;
-  rotation_difference = rotated.rotation_difference c.row_laws.ensures;
+  rotation_sum = rotated.rotation_sum c.laws.ensures.rows;
+  rotation_difference = rotated.rotation_difference c.laws.ensures.rows;
   rotation_scaled = rotated.rotation_scaled;
   rotation_product = rotated.rotation_product;
   product_rotation = rotated.product_rotation;
-  rotation_additive = rotated.rotation_additive c.row_laws.ensures;
+  rotation_additive = rotated.rotation_additive c.laws.ensures.rows;
 }

@@ -1,6 +1,6 @@
 use Rattle.seed_stream.proofs.DrawLemmas.{draw-periodic, after_draw-stream_at, next_draws-stream_at, draw-below, error_of-within}
 use Rattle.seed_stream.specs.Draws.{stream_key}
-use Rattle.seed_stream.proofs.laws.draw_laws.Goals as goal
+use Rattle.seed_stream.proofs.laws.laws.Goals as goal
 
 pub returns : goal.returns
 returns c = record {
