@@ -1,11 +1,12 @@
 -- How a gap of blanks and comments goes on.
-use Rattle.std.proofs.Common.{◌≡◌, ℕ, ◌+◌, ◌-◌, ◌≤◌, true, false, ◌==◌, nat_eq, List, [], ◌∷◌, length, take, drop, refl, ap, sym, ◌∙◌, inl, inr, arith, codes, zero-add, one-add, subst, ◌&&◌}
-use Rattle.std.specs.List.{prefix_len, position_or_len, starts_with}
-use Rattle.std.proofs.lemmas.Bool.{and_parts, cond-true, cond-false, cases_Bool, eqb-true, false≢true}
-use Rattle.std.proofs.lemmas.List.{drop-drop, take_rest}
+use Rattle.std.proofs.Common.{◌≡◌, ◌⊎◌, ℕ, ◌+◌, ◌-◌, ◌≤◌, Bool, true, false, not, ◌==◌, ◌++◌, nat_eq, List, [], ◌∷◌, length, take, drop, refl, ap, sym, ◌∙◌, inl, inr, arith, codes, zero-add, one-add, subst, ◌&&◌}
+use Rattle.std.specs.List.{prefix_len, position_or_len, list_all, starts_with, AllByRecursion}
+use Rattle.std.proofs.lemmas.Bool.{and_parts, and_from, cond-true, cond-false, cases_Bool, eqb-true, eq-eqb, not_from_false, false≢true}
+use Rattle.std.proofs.lemmas.List.{drop-drop, take_rest, append-nil, append_assoc, length-append}
 use Rattle.std.proofs.lemmas.Grind.{common_steps}
 use Rattle.mlir_lex.specs.Spellings.{is_blank}
 use Rattle.mlir_lex.specs.Tokens.{gap_length}
+use Rattle.mlir_lex.specs.Pieces.{has_no_line_feed, IsBlankOrComment, joined, IsGap, ends_gap, IsGapLength}
 
 -- a byte more before a gap
 gap_step : (n : ℕ) (x : ℕ) (xs : List ℕ) (g : ℕ) → g ≡ n + gap_length false (drop n xs) → 1 + g ≡ (1 + n) + gap_length false (drop (1 + n) (x ∷ xs))
@@ -89,3 +90,104 @@ gap_goes_on bytes at n m so_far blanks slashes_there comment =
     let long : 2 ≤ position_or_len (λ b. b == 10) (drop n (drop at bytes)) = comment_slashes (drop n (drop at bytes)) starts in
     let value : gap_length false bytes ≡ at + (n + (m + gap_length false (drop (at + n + m) bytes))) = so_far ∙ ap (λ k. at + k) (step ∙ ap (λ ys. n + (m + gap_length false ys)) left) in
     (omega (arith, value), omega (arith, long, skipped))
+
+-- blanks at the front belong to a gap
+pub gap_length-after_blanks : (blanks bytes : List ℕ) → list_all is_blank blanks ≡ true → gap_length false (blanks ++ bytes) ≡ length blanks + gap_length false bytes
+gap_length-after_blanks [] bytes h = sym (zero-add (gap_length false bytes))
+gap_length-after_blanks (b ∷ blanks) bytes h =
+    let parts = and_parts (is_blank b) (list_all is_blank blanks) h in
+    let rest : gap_length false (blanks ++ bytes) ≡ length blanks + gap_length false bytes = gap_length-after_blanks blanks bytes parts.1 in
+    rw (parts.0) (omega (arith, rest))
+
+-- a blank or a comment before a gap makes a longer gap
+one_more : (item gap : List ℕ) → IsBlankOrComment item → IsGap gap → IsGap (item ++ gap)
+one_more item gap is_item is_gap = (item ∷ is_gap.0, ap (λ ys. item ++ ys) is_gap.1, (is_item, is_gap.2))
+
+longer : (item bytes : List ℕ) (n : ℕ) → IsBlankOrComment item → IsGapLength bytes n → IsGapLength (item ++ bytes) (length item + n)
+longer item bytes n is_item (inl (gap, rest, whole, is_gap, ends, count)) =
+    inl (item ++ gap, rest, ap (λ ys. item ++ ys) whole ∙ sym (append_assoc item gap rest), one_more item gap is_item is_gap, ends, omega (arith, count, length-append item gap))
+longer item bytes n is_item (inr (gap, text, whole, is_gap, no_end, count)) =
+    inr (item ++ gap, text, ap (λ ys. item ++ ys) whole ∙ sym (append_assoc item gap (codes "//" ++ text)), one_more item gap is_item is_gap, no_end, omega (arith, count, length-append item bytes))
+
+-- what follows two slashes: a comment up to its LF and then a gap of the length, or no LF
+abbrev AfterSlashes : List ℕ → ℕ → Type 0
+AfterSlashes bytes n =
+    ((text rest : List ℕ) × (m : ℕ) × (bytes ≡ text ++ 10 ∷ rest) × (has_no_line_feed text ≡ true) × IsGapLength rest m × (n ≡ length text + (1 + m)))
+    ⊎ ((has_no_line_feed bytes ≡ true) × (n ≡ length bytes))
+
+one_more_in_comment : (b : ℕ) (bytes : List ℕ) (n : ℕ) → (b == 10) ≡ false → AfterSlashes bytes n → AfterSlashes (b ∷ bytes) (1 + n)
+one_more_in_comment b bytes n other (inl (text, rest, m, whole, no_end, is_gap, count)) =
+    inl (b ∷ text, rest, m, ap (λ ys. b ∷ ys) whole, and_from (not (b == 10)) (has_no_line_feed text) (not_from_false (b == 10) other) no_end, is_gap, omega (arith, count))
+one_more_in_comment b bytes n other (inr (no_end, count)) =
+    inr (and_from (not (b == 10)) (has_no_line_feed bytes) (not_from_false (b == 10) other) no_end, omega (arith, count))
+
+-- a comment, up to its LF or to the end, with the gap behind it
+comment_before : (bytes : List ℕ) (n : ℕ) → AfterSlashes bytes n → IsGapLength (47 ∷ 47 ∷ bytes) (2 + n)
+comment_before bytes n (inl (text, rest, m, whole, no_end, is_gap, count)) =
+    let item : List ℕ = 47 ∷ 47 ∷ (text ++ 10 ∷ []) in
+    let more : IsGapLength (item ++ rest) (length item + m) = longer item rest m (inr (text, refl, no_end)) is_gap in
+    let bytes_are : item ++ rest ≡ 47 ∷ 47 ∷ bytes = ap (λ ys. 47 ∷ 47 ∷ ys) (append_assoc text (10 ∷ []) rest ∙ sym whole) in
+    let length_is : length item + m ≡ 2 + n = omega (arith, count, length-append text (10 ∷ [])) in
+    subst (λ (k : ℕ). IsGapLength (47 ∷ 47 ∷ bytes) k) length_is (subst (λ (ys : List ℕ). IsGapLength ys (length item + m)) bytes_are more)
+comment_before bytes n (inr (no_end, count)) = inr ([], bytes, refl, ([], refl, tt), no_end, omega (arith, count))
+
+-- no gap stands before these bytes
+no_gap : (b : ℕ) (bs : List ℕ) → is_blank b ≡ false → starts_with nat_eq (b ∷ bs) (codes "//") ≡ false → IsGapLength (b ∷ bs) 0
+no_gap b bs no_blank no_comment = inl ([], b ∷ bs, refl, ([], refl, tt), and_from (not (is_blank b)) _ (not_from_false (is_blank b) no_blank) (not_from_false (starts_with nat_eq (b ∷ bs) (codes "//")) no_comment), refl)
+
+-- what the length of a gap says, outside a comment and in one
+abbrev IsLengthThere : Bool → List ℕ → Type 0
+IsLengthThere false bytes = IsGapLength bytes (gap_length false bytes)
+IsLengthThere true bytes = AfterSlashes bytes (gap_length true bytes)
+
+-- the length at a blank, and where no gap stands
+gap_at_blank : (b : ℕ) (bs : List ℕ) → is_blank b ≡ true → gap_length false (b ∷ bs) ≡ 1 + gap_length false bs
+gap_at_blank b bs h = cond-true (is_blank b) (1 + gap_length false bs) _ h
+
+gap_at_other : (b : ℕ) (bs : List ℕ) → is_blank b ≡ false → starts_with nat_eq (b ∷ bs) (codes "//") ≡ false → gap_length false (b ∷ bs) ≡ 0
+gap_at_other b bs no_blank no_comment = cond-false (is_blank b) (1 + gap_length false bs) _ no_blank ∙ cond-false (starts_with nat_eq (b ∷ bs) (codes "//")) (1 + gap_length true bs) 0 no_comment
+
+-- a byte that begins no comment
+at_no_slashes : (b : ℕ) (bs : List ℕ) → starts_with nat_eq (b ∷ bs) (codes "//") ≡ false → (is_blank b ≡ true → IsLengthThere false bs) → IsLengthThere false (b ∷ bs)
+at_no_slashes b bs no_comment rest =
+    elim (cases_Bool (is_blank b)) [
+      | inl e ↦ subst (λ (n : ℕ). IsGapLength (b ∷ bs) n) (sym (gap_at_blank b bs e)) (longer (b ∷ []) bs (gap_length false bs) (inl (b, refl, e)) (rest e))
+      | inr e ↦ subst (λ (n : ℕ). IsGapLength (b ∷ bs) n) (sym (gap_at_other b bs e no_comment)) (no_gap b bs e no_comment)
+    ]
+
+-- two slashes
+at_slashes : (bs : List ℕ) → IsLengthThere true bs → IsLengthThere false (47 ∷ 47 ∷ bs)
+at_slashes bs rest =
+    let same : 2 + gap_length true bs ≡ 1 + (1 + gap_length true bs) = omega arith in
+    subst (λ (n : ℕ). IsGapLength (47 ∷ 47 ∷ bs) n) same (comment_before bs (gap_length true bs) rest)
+
+-- a byte of a comment
+in_a_comment : (b : ℕ) (bs : List ℕ) → IsLengthThere true bs → IsLengthThere false bs → IsLengthThere true (b ∷ bs)
+in_a_comment b bs inside behind =
+    elim (cases_Bool (b == 10)) [
+      | inl e ↦ subst (λ (x : ℕ). IsLengthThere true (x ∷ bs)) (sym (eqb-true b 10 e)) (inl ([], bs, gap_length false bs, refl, refl, behind, omega arith))
+      | inr e ↦ subst (λ (t : Bool). AfterSlashes (b ∷ bs) (1 + gap_length (not t) bs)) (sym e) (one_more_in_comment b bs (gap_length true bs) e inside)
+    ]
+
+length_there : (in_comment : Bool) (bytes : List ℕ) → IsLengthThere in_comment bytes
+length_there true [] = inr (refl, refl)
+length_there true (b ∷ bs) = in_a_comment b bs (length_there true bs) (length_there false bs)
+length_there false [] = inl ([], [], refl, ([], refl, tt), refl, refl)
+length_there false (b ∷ []) = at_no_slashes b [] (and_no (47 == b)) (λ _. length_there false [])
+  where
+    and_no : (t : Bool) → (t && false) ≡ false
+    and_no true = refl
+    and_no false = refl
+length_there false (b ∷ c ∷ bs) =
+    elim (cases_Bool (starts_with nat_eq (b ∷ c ∷ bs) (codes "//"))) [
+      | inl e ↦
+          let parts = and_parts (47 == b) (47 == c && true) e in
+          let first : 47 ≡ b = eqb-true 47 b parts.0 in
+          let second : 47 ≡ c = eqb-true 47 c (and_parts (47 == c) true parts.1).0 in
+          subst (λ (x : ℕ). IsLengthThere false (x ∷ c ∷ bs)) first (subst (λ (x : ℕ). IsLengthThere false (47 ∷ x ∷ bs)) second (at_slashes bs (length_there true bs)))
+      | inr e ↦ at_no_slashes b (c ∷ bs) e (λ _. length_there false (c ∷ bs))
+    ]
+
+-- a gap is blanks and comments, as many as stand there
+pub gap_length-is_gap : (bytes : List ℕ) → IsGapLength bytes (gap_length false bytes)
+gap_length-is_gap bytes = length_there false bytes

@@ -4,3 +4,4 @@ pub mod FirstBytes
 pub mod Longest
 pub mod Readings
 pub mod ReadingLemmas
+pub mod PieceReadings

@@ -43,7 +43,7 @@ quote_is_no_text : (b : ℕ) → (b == 34) ≡ true → is_text_byte b ≡ false
 quote_is_no_text b h = subst (λ (x : ℕ). is_text_byte x ≡ false) (sym (eqb-true b 34 h)) refl
 
 -- the place of the quote that closes
-closes_at : (bs : List ℕ) (m : ℕ) → m ≤ length bs → is_closed (take m bs) ≡ true → (m ≡ prefix_len is_text_byte bs + 1) × ((get_or bs (prefix_len is_text_byte bs) 0 == 34) ≡ true)
+pub closes_at : (bs : List ℕ) (m : ℕ) → m ≤ length bs → is_closed (take m bs) ≡ true → (m ≡ prefix_len is_text_byte bs + 1) × ((get_or bs (prefix_len is_text_byte bs) 0 == 34) ≡ true)
 closes_at bs zero h e = absurd (false≢true e)
 closes_at [] (suc m) h e = absurd (false≢true e)
 closes_at (b ∷ bs) (suc zero) h e = rw (quote_is_no_text b e) (refl, e)
@@ -65,7 +65,7 @@ digits_at_most [] (suc m) h e = absurd (false≢true e)
 digits_at_most (b ∷ bs) (suc m) h e = prefix_len_longest is_ascii_digit (b ∷ bs) (suc m) h e
 
 -- a sign of one byte is no `-`
-sign_is_no_dash : (b : ℕ) → is_sign b ≡ true → (b == 45) ≡ false
+pub sign_is_no_dash : (b : ℕ) → is_sign b ≡ true → (b == 45) ≡ false
 sign_is_no_dash b h = grind (arith, nat_tests)
 
 one_sign_at_most : (b : ℕ) (bs : List ℕ) → is_sign b ≡ true → 1 ≤ token_length Sign b bs

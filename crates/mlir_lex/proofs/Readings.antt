@@ -1,5 +1,5 @@
 -- What holds of every list of tokens that fits the definition.
-use Rattle.std.proofs.Common.{◌≡◌, ℕ, zero, suc, length, All, ◌+◌, ◌-◌, ◌≤◌, ◌<◌, List, [], ◌∷◌, ◌++◌, take, drop, refl, ap, sym, ◌∙◌, subst, arith, Option, Some, None}
+use Rattle.std.proofs.Common.{◌≡◌, true, ℕ, zero, suc, length, All, ◌+◌, ◌-◌, ◌≤◌, ◌<◌, List, [], ◌∷◌, ◌++◌, take, drop, refl, ap, sym, ◌∙◌, subst, arith, Option, Some, None}
 use Rattle.std.specs.List.{slice_range, AllByRecursion}
 use Rattle.std.proofs.lemmas.List.Elements.{All-from_recursion}
 use Rattle.std.proofs.lemmas.List.{length-drop, drop-drop, take-append-drop}
@@ -8,7 +8,8 @@ use Rattle.mlir_lex.specs.declared.TokenKind.{TokenKind}
 use Rattle.mlir_lex.specs.declared.Token.{Token}
 use Rattle.mlir_lex.specs.declared.LexFault.{LexFault}
 use Rattle.mlir_lex.specs.Tokens.{StartsWith, StartsWithLongest, IsTokenAt, IsStopAt, AreTokensFrom, AreTokensOf, IsWithin, after_gap}
-use Rattle.mlir_lex.specs.Laws.{pieces_from}
+use Rattle.mlir_lex.specs.Spellings.{spells}
+use Rattle.mlir_lex.specs.Pieces.{pieces_from, IsSpelled}
 use Rattle.mlir_lex.proofs.Longest.{kinds_agree, no_token_at_end, starts_with_nothing}
 
 -- the longest spelling at a place is one
@@ -94,3 +95,11 @@ within_from bytes place (token ∷ tokens) stop h = (token_within bytes (after_g
 
 pub tokens_are_within : (bytes : List ℕ) (tokens : List Token) (stop : Option LexFault) → AreTokensOf bytes tokens stop → All (IsWithin bytes) tokens
 tokens_are_within bytes tokens stop h = All-from_recursion (IsWithin bytes) tokens (within_from bytes 0 tokens stop h)
+
+-- a token's bytes are spelled in its kind
+token_spelled_there : (bytes : List ℕ) (place : ℕ) (token : Token) → IsTokenAt bytes place token → IsSpelled bytes token
+token_spelled_there bytes place token h = subst (λ (n : ℕ). spells token.kind (take (token.end - token.start) (drop n bytes)) ≡ true) (sym h.0) h.2.0.1
+
+pub spelled_from : (bytes : List ℕ) (place : ℕ) (tokens : List Token) (stop : Option LexFault) → AreTokensFrom bytes place tokens stop → AllByRecursion (IsSpelled bytes) tokens
+spelled_from bytes place [] stop h = tt
+spelled_from bytes place (token ∷ tokens) stop h = (token_spelled_there bytes (after_gap bytes place) token h.0, spelled_from bytes token.end tokens stop h.1)

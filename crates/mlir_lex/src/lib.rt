@@ -8,11 +8,10 @@
 ghost use Rattle.std.specs.Prelude.{All, IfOk, length, ◌^◌, ◌≤◌};
 ghost use Rattle.mlir_lex.specs.Tokens.{AreTokensOf, IsNextFrom, IsWithin};
 
-pub use laws::{each_has_reading, one_kind, one_reading, pieces_are_bytes};
 pub use lists::List;
 use std::alloc::{AllocError, Global};
 
-mod laws;
+pub mod laws;
 mod lengths;
 
 /// What a token is. Letters and digits are ASCII.

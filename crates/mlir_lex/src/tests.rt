@@ -123,8 +123,5 @@ fn reads_long_texts_in_one_pass(rt: HostRuntime) -> Result<(), Fail> {
 
 #[test]
 fn laws_hold_of_all_texts() {
-    each_has_reading();
-    one_kind();
-    one_reading();
-    pieces_are_bytes();
+    laws::laws();
 }
