@@ -8,7 +8,7 @@ use Rattle.std.proofs.lemmas.List.Elements.{All-from_get_or, All-weaker, All-nil
 use Rattle.std.proofs.lemmas.Slice.Zip.{length-zip, get_or-zip}
 use Rattle.std.proofs.lemmas.Bool.{cases_lt}
 use Rattle.std.proofs.Common.{⊎_elim}
-use Rattle.word_ring.specs.Words.{IsWord, word_difference, word_product, word_negation, size}
+use Rattle.word_ring.specs.Words.{IsWord, word_sum, word_difference, word_product, word_negation, size}
 use Rattle.word_ring.specs.Rows.{zip_words, row_sum, row_difference, scaled_row, scaled_rows, sum_of_rows, zip_rows, IsAdditive, AllOfLength, RowWithin, RowLaws}
 use Rattle.word_ring.specs.RowLaws.{RowSizeLaws}
 use Rattle.lwe_core.specs.Secret.{bit_word, bit_words, ones_of}
@@ -407,3 +407,10 @@ cmux_noise laws n ones bound key bit g acc other fits few p q =
     ∙ ap (λ k. row_sum e (replicate k 0)) (sym e_long)
     ∙ laws.plain.ring.sum_zero e (laws.plain.ring.zip_are_words word_difference x d (λ x y. omega arith)) in
     subst (RowWithin (product_noise n ones bound key bit g)) (sym is) (external_noise laws n ones bound key bit g more fits few more_shape)
+
+-- CMux fits the key that both ciphertexts fit
+pub cmux_fits : NoiseServing → (n bound : ℕ) (key : List (List Bool)) (bit : Bool) (g : GgswRows) (acc other : List (List ℕ)) → GgswFits n bound key bit g → FitsGlweKey n key acc → FitsGlweKey n key other → FitsGlweKey n key (cmux_of g acc other)
+cmux_fits laws n bound key bit g acc other fits p q =
+    let more : List (List ℕ) = zip_rows row_difference other acc in
+    zip_fits laws.plain.rows word_sum n key acc (external_product g more) p
+    (external_fits laws n bound key bit g more fits (zip_fits laws.plain.rows word_difference n key other acc q p))

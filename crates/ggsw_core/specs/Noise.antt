@@ -56,6 +56,16 @@ SelectsPhase g acc other selected =
     → RowWithin (product_noise n ones bound key bit g)
     (row_difference (glwe_phase key selected) (glwe_phase key (if bit then other else acc)))
 
+-- the shapes of products with GGSW ciphertexts
+pub record GgswShapeLaws : Type 0 where
+  -- an external product fits the key that the ciphertext fits
+  pub external_fits : (n bound : ℕ) (key : List (List Bool)) (bit : Bool) (g : GgswRows) (c : List (List ℕ))
+      → GgswFits n bound key bit g → FitsGlweKey n key c → FitsGlweKey n key (external_product g c)
+  -- and so does CMux
+  pub cmux_fits : (n bound : ℕ) (key : List (List Bool)) (bit : Bool) (g : GgswRows) (acc other : List (List ℕ))
+      → GgswFits n bound key bit g → FitsGlweKey n key acc → FitsGlweKey n key other
+      → FitsGlweKey n key (cmux_of g acc other)
+
 -- the noise of products with GGSW ciphertexts
 pub record GgswNoiseLaws : Type 0 where
   -- an external product multiplies the phase with the bit
