@@ -1,1 +1,2 @@
 pub mod TestPolynomial
+pub mod Laws

@@ -32,3 +32,8 @@ fn worked_tables(rt: HostRuntime) -> Result<(), Fail> {
     assert_eq!(rt; poly.coeffs(), want.as_slice());
     Ok(())
 }
+
+#[test]
+fn laws_are_free() {
+    laws::laws();
+}
