@@ -1,0 +1,2 @@
+mod costs;
+mod tables;
