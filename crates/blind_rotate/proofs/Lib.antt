@@ -1,0 +1,6 @@
+mod KeyParts
+mod SwitchedPhases
+mod Steps
+mod Accumulators
+mod Bootstraps
+mod BootRowPlaces

@@ -1,0 +1,5 @@
+pub mod BootKey
+pub mod Bootstrap
+pub mod Fits
+pub mod Noise
+pub mod Laws
