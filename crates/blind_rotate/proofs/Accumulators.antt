@@ -1,16 +1,16 @@
 -- What the accumulator of a bootstrap stands for, step by step.
-use Rattle.std.proofs.Common.{◌≡◌, ℕ, zero, suc, ◌+◌, ◌-◌, ◌*◌, ◌^◌, ◌<◌, ◌≤◌, Bool, true, false, cond, List, [], ◌∷◌, ◌++◌, length, map, get_or, take, replicate, arith, ap, sym, refl, ◌∙◌, subst, add-zero}
+use Rattle.std.proofs.Common.{◌≡◌, ℕ, ◌+◌, ◌-◌, ◌*◌, ◌^◌, ◌<◌, ◌≤◌, Bool, true, false, cond, List, [], ◌∷◌, length, map, get_or, take, replicate, arith, ap, sym, ◌∙◌, subst, add-zero}
 use Rattle.std.specs.List.{All, zip, sum_by}
 use Rattle.std.proofs.lemmas.List.{length-map, get_or-map, length-replicate, length_push}
-use Rattle.std.proofs.lemmas.List.Elements.{All-replicate, All-weaker, All-append, All-cons, All-nil}
+use Rattle.std.proofs.lemmas.List.Elements.{All-replicate, All-append, All-cons, All-nil}
 use Rattle.std.proofs.lemmas.List.Sums.{sum_by_more}
 use Rattle.std.proofs.lemmas.Nat.{pow_pos}
 use Rattle.std.proofs.lemmas.Slice.Zip.{length-zip, get_or-zip}
-use Rattle.word_ring.specs.Words.{IsWord, word_difference, size}
+use Rattle.word_ring.specs.Words.{word_difference, size}
 use Rattle.word_ring.specs.Rows.{row_sum, row_difference, RowWithin, RowLaws}
 use Rattle.word_ring.specs.RowLaws.{RowRingLaws, RowSizeLaws}
 use Rattle.word_ring.specs.Rounding.{mod_switched}
-use Rattle.lwe_core.specs.Secret.{bit_word, ones_of, SecretFits}
+use Rattle.lwe_core.specs.Secret.{bit_word, ones_of}
 use Rattle.lwe_core.specs.Phase.{FitsKey, masked_sum}
 use Rattle.lwe_core.specs.Laws.{OnesLaws}
 use Rattle.negacyclic.specs.Product.{rotation}

@@ -1,21 +1,20 @@
 -- The noise of a bootstrap, and what its result stands for.
-use Rattle.std.proofs.Common.{◌≡◌, ℕ, zero, suc, ◌+◌, ◌-◌, ◌*◌, ◌^◌, ◌<◌, ◌≤◌, ℤ, pos, Bool, List, [], ◌∷◌, length, get_or, take, arith, ap, sym, refl, ◌∙◌, subst, add-one}
+use Rattle.std.proofs.Common.{◌≡◌, ℕ, zero, suc, ◌+◌, ◌-◌, ◌*◌, ◌^◌, ◌<◌, ◌≤◌, Bool, List, [], length, get_or, take, arith, ap, sym, ◌∙◌, subst, add-one}
 use Rattle.std.proofs.Math.Nat.{mul-le-mul_right}
 use Rattle.std.specs.Int.RustNames.{unsigned_abs}
 use Rattle.std.proofs.lemmas.List.{take_all}
 use Rattle.std.proofs.lemmas.Nat.{pow_pos}
 use Rattle.word_ring.specs.Words.{word_difference, size}
-use Rattle.word_ring.specs.Rows.{row_difference, RowWithin}
-use Rattle.word_ring.specs.Rounding.{SwitchingLaws}
+use Rattle.word_ring.specs.Rows.{row_difference}
 use Rattle.lwe_core.specs.Secret.{ones_of}
 use Rattle.lwe_core.specs.Phase.{FitsKey, phase_of}
 use Rattle.lwe_core.specs.Decoding.{encoded}
-use Rattle.lwe_core.specs.Encrypts.{centred_error, Encrypts}
+use Rattle.lwe_core.specs.Encrypts.{centred_error}
 use Rattle.negacyclic.specs.Product.{rotation}
-use Rattle.glwe_core.specs.Glwe.{FitsGlweKey, IsKeyFrom, flat_key_of, glwe_phase, extracted}
+use Rattle.glwe_core.specs.Glwe.{IsKeyFrom, glwe_phase, extracted}
 use Rattle.glwe_core.specs.Laws.{ExtractionLaws}
 use Rattle.ggsw_core.specs.Ggsw.{GgswRows}
-use Rattle.lut_encode.specs.TestPolynomial.{entry_at, test_polynomial}
+use Rattle.lut_encode.specs.TestPolynomial.{entry_at}
 use Rattle.lut_encode.specs.Laws.{LookupLaws}
 use Rattle.blind_rotate.specs.BootKey.{GlweShape, BootRows}
 use Rattle.blind_rotate.specs.Bootstrap.{blind_rotation, first_accumulator, bootstrapped}

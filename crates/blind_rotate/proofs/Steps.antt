@@ -58,14 +58,9 @@ pub zero_lengths : (parts n : ℕ) → lengths_of (replicate parts (replicate n 
 zero_lengths zero n = refl
 zero_lengths (suc parts) n = ap (λ k. k ∷ lengths_of (replicate parts (replicate n 0))) (length-replicate n 0) ∙ ap (λ ks. n ∷ ks) (zero_lengths parts n)
 
--- a rotation by what is left of 2N - b
-pub first_rotation : RotationLaws → (test : List ℕ) (log_n b places by : ℕ) → length test ≡ 2 ^ log_n → places ≡ 2 * 2 ^ log_n → by ≡ b → rotation ((places - by) % places) test ≡ rotation (2 * 2 ^ log_n - b) test
-first_rotation rotations test log_n b places by long all same =
-    let whole : places ≡ 2 * length test = all ∙ ap (λ n. 2 * n) (sym long) in
-    ap (λ m. rotation ((m - by) % m) test) whole
-    ∙ rotations.rotation_residue (2 * length test - by) test
-    ∙ ap (λ n. rotation (2 * n - by) test) long
-    ∙ ap (λ b. rotation (2 * 2 ^ log_n - b) test) same
+-- a rotation sees the exponent modulo 2N
+pub first_rotation : RotationLaws → (test : List ℕ) (log_n by : ℕ) → length test ≡ 2 ^ log_n → rotation (by % (2 * 2 ^ log_n)) test ≡ rotation by test
+first_rotation rotations test log_n by long = ap (λ n. rotation (by % (2 * n)) test) (sym long) ∙ rotations.rotation_residue by test
 
 -- the parts of a ciphertext of a shape have n words
 pub parts_long : (c : List (List ℕ)) (parts n : ℕ) → lengths_of c ≡ replicate parts n → AllOfLength n c

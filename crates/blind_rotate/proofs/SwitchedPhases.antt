@@ -1,14 +1,14 @@
 -- What switching to 2N places leaves of a phase.
-use Rattle.std.proofs.Common.{◌≡◌, ℕ, zero, suc, ◌+◌, ◌-◌, ◌*◌, ◌/◌, ◌%◌, ◌^◌, ◌<◌, ◌≤◌, ℤ, pos, Bool, true, false, cond, List, [], ◌∷◌, length, map, get_or, take, arith, ap, sym, refl, ◌∙◌, subst, ⊎_elim, mul_assoc, zero-mul}
+use Rattle.std.proofs.Common.{◌≡◌, ℕ, ◌+◌, ◌-◌, ◌*◌, ◌/◌, ◌%◌, ◌^◌, ◌<◌, ◌≤◌, ℤ, pos, Bool, true, false, cond, List, [], ◌∷◌, length, map, get_or, arith, ap, sym, refl, ◌∙◌, subst, ⊎_elim, mul_assoc, zero-mul}
 use Rattle.std.proofs.Math.Nat.{mod-eq_of_lt, mod-eq-sub-mod, add-mod-mod, add-mod_left, div-eq_of_lt, mul-le-mul_left, mul-le-mul_right, mul-lt-mul_of_pos_right, lt_of_mul-lt-mul_right, pow-le-pow_right}
-use Rattle.std.specs.List.{All, zip, sum_by}
+use Rattle.std.specs.List.{zip}
 use Rattle.std.specs.Int.RustNames.{unsigned_abs}
 use Rattle.std.proofs.lemmas.Bool.{cases_lt}
 use Rattle.std.proofs.lemmas.Nat.{pow-add, pow_pos, shl-shr, div-add-mod', mod_below, mod-mul-add, div-mul-add}
 use Rattle.std.proofs.lemmas.List.{length-map, get_or-map, take_all}
 use Rattle.std.proofs.lemmas.List.Elements.{All-from_get_or}
 use Rattle.std.proofs.lemmas.List.Sums.{sum_by-cons}
-use Rattle.word_ring.specs.Words.{word_difference, word_product, size}
+use Rattle.word_ring.specs.Words.{word_difference, size}
 use Rattle.word_ring.specs.Rows.{row_difference, RowWithin, RowLaws}
 use Rattle.word_ring.specs.Rounding.{mod_switched, SwitchingLaws}
 use Rattle.word_ring.specs.Signed.{word_of, SignedLaws}
@@ -20,7 +20,7 @@ use Rattle.lwe_core.specs.Laws.{PhaseLaws, PhaseSizeLaws, NoiseLaws}
 use Rattle.negacyclic.specs.Product.{rotation}
 use Rattle.negacyclic.specs.Laws.{RotationLaws}
 use Rattle.lut_encode.specs.TestPolynomial.{box_of, half_box, entry_at, test_polynomial}
-use Rattle.lut_encode.specs.Laws.{box_at, LookupLaws}
+use Rattle.lut_encode.specs.Laws.{LookupLaws}
 use Rattle.blind_rotate.specs.Noise.{switched_sum, switched_phase, exponent_after}
 use Rattle.blind_rotate.specs.Laws.{SwitchedPhaseLaws}
 

@@ -56,7 +56,8 @@ pub record HasBootRow (key : BootRows) (i j t : ℕ) : Type 0 where
 
 -- the key for so many bits whose rows are 0
 abbrev pub zero_boot_key : ℕ → ℕ → ℕ → ℕ → ℕ → BootRows
-zero_boot_key k log_n dim base level = boot_rows k log_n base level (replicate dim (zero_ggsw (k + 1) (2 ^ log_n) base level))
+zero_boot_key k log_n dim base level =
+    boot_rows k log_n base level (replicate dim (zero_ggsw (k + 1) (2 ^ log_n) base level))
 
 -- the key with another row of part j at place t of bit i
 abbrev pub with_boot_row : BootRows → ℕ → ℕ → ℕ → List (List ℕ) → BootRows

@@ -1,5 +1,5 @@
 -- What keys have to be for the parameters, over plain numbers.
-use Rattle.std.specs.Prelude.{◌≡◌, ℕ, ◌+◌, ◌*◌, ◌^◌, ◌<◌, Bool, false, List, [], ◌∷◌, All, length, take, drop}
+use Rattle.std.specs.Prelude.{◌≡◌, ℕ, ◌*◌, ◌^◌, ◌<◌, Bool, false, List, [], ◌∷◌, All, length, take, drop}
 use Rattle.std.specs.List.{slice_index_or}
 use Rattle.std.proofs.Common.{zero, suc}
 use Rattle.lwe_core.specs.Secret.{SecretFits}
@@ -43,7 +43,8 @@ pub record BootKeyFits (p : KeyNumbers) (big small : List Bool) (boot : List Ggs
   pub boot_rows : BootRowsFit p.k p.log_n p.boot_base p.boot_level p.big_error big small boot
 
 -- the keys fit: the secret key, the rows of the switch key, and those of the boot key
-pub record KeysFit (p : KeyNumbers) (big small : List Bool) (switch : List (List ℕ)) (boot : List GgswRows) : Type 0 where
+pub record KeysFit (p : KeyNumbers) (big small : List Bool) (switch : List (List ℕ)) (boot : List GgswRows)
+    : Type 0 where
   pub secret : SecretFits (p.k * 2 ^ p.log_n) p.big_ones p.small_dim p.small_ones big small
   pub switch_rows : SwitchRowsFit p.switch_base p.switch_level p.small_error big small switch
   pub boot_rows : BootRowsFit p.k p.log_n p.boot_base p.boot_level p.big_error big small boot

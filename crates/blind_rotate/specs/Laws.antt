@@ -16,7 +16,8 @@ use Rattle.blind_rotate.specs.Noise.{switched_phase, shape_of, AccumulatorHolds,
 -- the polynomials of a flat key
 pub record KeyPolynomialLaws : Type 0 where
   -- they are a key from it
-  pub polynomials_are : (k n : ℕ) (flat : List Bool) → length flat ≡ k * n → IsKeyFrom k n flat (key_polynomials k n flat)
+  pub polynomials_are : (k n : ℕ) (flat : List Bool) → length flat ≡ k * n
+      → IsKeyFrom k n flat (key_polynomials k n flat)
   -- and the only one
   pub polynomials_only : (k n : ℕ) (flat : List Bool) (key : List (List Bool)) → IsKeyFrom k n flat key
       → key ≡ key_polynomials k n flat
@@ -30,7 +31,7 @@ pub record FittingLaws : Type 0 where
 -- what modulus switching leaves of a phase
 pub record SwitchedPhaseLaws : Type 0 where
   -- where a ciphertext stands for a value that a width has room for, and its bound leaves room for the noise of
-  -- switching, coefficient 0 of the test polynomial rotated by minus the switched phase is the place of the value's entry
+  -- switching, coefficient 0 of the test polynomial rotated by minus the switched phase is the encoding of the entry
   pub entry_read : (log_n width v bound small_ones : ℕ) (bits : List Bool) (words : List ℕ) (entries : List ℤ)
       → log_n ≤ 13 → v < 2 ^ width → ones_of bits ≤ small_ones → Encrypts bits words (pos v) width bound
       → bound + (1 + small_ones) * 2 ^ (62 - log_n) < 2 ^ (62 - width)

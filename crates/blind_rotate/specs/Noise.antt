@@ -4,7 +4,7 @@ use Rattle.word_ring.specs.Words.{word_difference, size}
 use Rattle.word_ring.specs.Rows.{row_difference, RowWithin}
 use Rattle.word_ring.specs.Rounding.{mod_switched}
 use Rattle.lwe_core.specs.Secret.{ones_of}
-use Rattle.lwe_core.specs.Phase.{FitsKey, masked_sum, phase_of}
+use Rattle.lwe_core.specs.Phase.{masked_sum, phase_of}
 use Rattle.lwe_core.specs.Encrypts.{Encrypts}
 use Rattle.negacyclic.specs.Product.{rotation}
 use Rattle.glwe_core.specs.Glwe.{FitsGlweKey, glwe_phase}
@@ -23,7 +23,7 @@ switched_phase log_n bits words =
     (mod_switched (slice_index words (length bits)) log_n
     + (2 * 2 ^ log_n - switched_sum log_n bits words % (2 * 2 ^ log_n))) % (2 * 2 ^ log_n)
 
--- the exponent of X after i steps: minus the switched body, and the switched mask words among the first i whose bit is 1
+-- the exponent of X after i steps: minus the switched body, and those of the first i switched mask words whose bit is 1
 abbrev pub exponent_after : ℕ → List Bool → List ℕ → ℕ → ℕ
 exponent_after log_n bits words i =
     (2 * 2 ^ log_n - mod_switched (slice_index words (length bits)) log_n) + switched_sum log_n (take i bits) words
@@ -42,7 +42,8 @@ boot_noise p = p.small_dim * step_noise p + p.small_ones * one_noise p
 
 -- the accumulator after i steps: each coefficient of its phase is that of the test polynomial rotated so far, but for
 -- the noise of the steps
-pub record AccumulatorHolds (p : KeyNumbers) (big small : List Bool) (test words : List ℕ) (i : ℕ) (acc : List (List ℕ)) : Type 0 where
+pub record AccumulatorHolds (p : KeyNumbers) (big small : List Bool) (test words : List ℕ) (i : ℕ)
+    (acc : List (List ℕ)) : Type 0 where
   pub fits : FitsGlweKey (2 ^ p.log_n) (key_polynomials p.k (2 ^ p.log_n) big) acc
   pub near :
       RowWithin (i * step_noise p + ones_of (take i small) * one_noise p)

@@ -1,6 +1,7 @@
 //! The bootstrap.
 
 ghost use Rattle.std.specs.Prelude.{◌≡◌, ◌<◌, ◌≤◌, ◌+◌, ◌-◌, ◌*◌, ◌%◌, ◌^◌, IfOk, All, length, slice_index};
+ghost use Rattle.word_ring.specs.Rounding.{mod_switched};
 ghost use Rattle.glwe_core.specs.Glwe.{lengths_of, degree_of};
 ghost use Rattle.ggsw_core.specs.Ggsw.{row_lengths};
 ghost use Rattle.blind_rotate.specs.BootKey.{glwe_shape, ggsw_at};
@@ -78,6 +79,18 @@ fn places(log_n: u32) -> u32
     2 << log_n
 }
 
+/// The exponent modulo 2N that turns back by a switched word.
+#[inline]
+fn minus_switched(word: u64, log_n: u32) -> u32
+    requires low { 1 ≤ log_n }
+    requires high { log_n ≤ 13 }
+    ensures value { result ≡ (2 * 2 ^ log_n - mod_switched word log_n) % (2 * 2 ^ log_n) }
+    ensures below { result < 2 * 2 ^ log_n }
+{
+    word_ring::laws::laws();
+    (places(log_n) - mod_switch(word, log_n)) % places(log_n)
+}
+
 /// Sets the accumulator to the ciphertext without a mask of X^(-b) times the test polynomial, where b is the switched
 /// body.
 fn start(acc: &mut Glwe, room: &mut Poly, test: &Poly, log_n: u32, body: u64)
@@ -90,10 +103,8 @@ fn start(acc: &mut Glwe, room: &mut Poly, test: &Poly, log_n: u32, body: u64)
     ensures shape { lengths_of acc.new ≡ lengths_of acc.old }
     ensures room_stays { length room.new ≡ length room.old }
 {
-    word_ring::laws::laws();
     negacyclic::laws::laws();
-    let places = places(log_n);
-    rotate_into(room, test, (places - mod_switch(body, log_n)) % places);
+    rotate_into(room, test, minus_switched(body, log_n));
     trivial_into(acc, room);
 }
 

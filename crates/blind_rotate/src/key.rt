@@ -33,8 +33,8 @@ impl Model for BootKey {
 }
 
 impl BootKey {
-    /// A key for a small key of n bits and ciphertexts of k mask polynomials and a body of 2^log_n words, whose rows are
-    /// 0. It fails only for memory.
+    /// A key for a small key of n bits and ciphertexts of k mask polynomials and a body of 2^log_n words. Its rows are 0.
+    /// It fails only for memory.
     pub fn new(
         alloc: Global,
         k: u32,
@@ -132,8 +132,8 @@ impl BootKey {
         self.ggsws.as_slice()
     }
 
-    /// Exchanges row (j, t) of the GGSW ciphertext of bit i with the given one of its shape, and leaves all other rows. It
-    /// takes no memory.
+    /// Exchanges row (j, t) of the GGSW ciphertext of bit i with the given one of its shape, and leaves all other rows.
+    /// It takes no memory.
     pub fn swap_row(&mut self, i: u32, j: u32, t: u32, row: &mut Glwe)
         requires bit { i < length self.old.ggsws }
         requires part { j ≤ self.old.shape.k }

@@ -2,9 +2,9 @@
 
 ghost use Rattle.blind_rotate.specs.Laws.{KeyPolynomialLaws, FittingLaws, SwitchedPhaseLaws, AccumulatorLaws, BootstrapLaws, ExchangeLaws};
 
-/// What a bootstrap does to phases, for all keys that fit: what switching to 2N places leaves of a phase, what each step
-/// adds to the accumulator's noise, and what the result stands for (Chillotti et al. 2020; worst cases, where Bergerat et
-/// al. 2023 take variances).
+/// What a bootstrap does to phases, for all keys that fit: what switching to 2N places leaves of a phase, what each
+/// step adds to the accumulator's noise, and what the result stands for (Chillotti et al. 2020; worst cases, where
+/// Bergerat et al. 2023 take variances).
 #[inline]
 pub fn laws()
     ensures keys { KeyPolynomialLaws }

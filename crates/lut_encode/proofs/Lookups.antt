@@ -1,7 +1,6 @@
 -- What stands at place 0 of a test polynomial that was rotated.
-use Rattle.std.proofs.Common.{◌≡◌, ℕ, zero, suc, ◌+◌, ◌-◌, ◌*◌, ◌/◌, ◌%◌, ◌^◌, ◌<◌, ◌≤◌, ℤ, List, length, map, get_or, cond, ltb, arith, ap, sym, ◌∙◌, ⊎_elim, mul_comm, zero-add}
+use Rattle.std.proofs.Common.{◌≡◌, ℕ, zero, suc, ◌+◌, ◌-◌, ◌*◌, ◌/◌, ◌%◌, ◌^◌, ◌<◌, ◌≤◌, ℤ, List, length, get_or, cond, ltb, arith, ap, sym, ◌∙◌, ⊎_elim, mul_comm, zero-add}
 use Rattle.std.proofs.Math.Nat.{mod-eq_of_lt, mod_self, mod-eq-sub-mod, div-eq_of_lt, mul-le-mul_right}
-use Rattle.std.specs.List.{range_with_len}
 use Rattle.std.proofs.lemmas.Nat.{pow-add, pow_pos, shl-shr, div-add-mod', mod_below, div-mul-add}
 use Rattle.std.proofs.lemmas.Bool.{cases_lt, cond-true, cond-false, lt-ltb, le-ltb}
 use Rattle.std.proofs.lemmas.List.FromFn.{length-map-range_with_len, get_or-map-range_with_len}

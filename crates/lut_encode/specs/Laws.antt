@@ -12,7 +12,7 @@ box_at n width m = (m + half_box n width) % (2 * n) / box_of n width
 
 -- what X^(-m) times the test polynomial of 2^log_n coefficients has at place 0
 pub record LookupLaws : Type 0 where
-  -- the encoding of the entry in whose box m stands; from the last half box of the circle on that is entry 0, as what is
+  -- the encoding of the entry in whose box m stands; in the last half box of the circle that is entry 0, as what is
   -- negated in the polynomial is negated once more
   pub looked_up : (entries : List ℤ) (log_n width m v : ℕ) → width < log_n → m < 2 * 2 ^ log_n
       → v < 2 ^ width → box_at (2 ^ log_n) width m ≡ v

@@ -1,6 +1,5 @@
-use Rattle.std.proofs.Common.{◌≡◌, ◌+◌, ◌*◌, ◌^◌, ◌≤◌, ℕ, List, sym, subst, ap, ◌∙◌, arith, length}
-use Rattle.glwe_core.specs.Glwe.{lengths_of}
-use Rattle.blind_rotate.specs.BootKey.{GlweShape, glwe_shape, shape_lengths}
+use Rattle.std.proofs.Common.{◌≡◌, ◌+◌, ◌*◌, ◌^◌, ◌≤◌, ℕ, sym, subst, ap, ◌∙◌, length}
+use Rattle.blind_rotate.specs.BootKey.{GlweShape}
 use Rattle.blind_rotate.specs.Noise.{ReadsTest, LooksUp}
 use Rattle.blind_rotate.proofs.Steps.{whole_bootstrap, extracted_length}
 use Rattle.blind_rotate.proofs.bootstrap.bootstrap_into.Goals as goal
@@ -11,7 +10,7 @@ returns-clause-words c =
     let log_n : ℕ = c.room.inside.log_n in
     let shape = c.requires.key ∙ sym c.room.view_is in
     whole_bootstrap c.args.key.now k log_n c.word.result c.room.inside.acc c.start.new.acc c.rotate_blindly.new.acc c.ggsws.result.now c.args.test.now c.args.c.now c.words.result.now c.extract_into.new.out
-    shape c.room.invariant.0 (cc) c.ggsws.ensures c.words.ensures c.start.ensures.words c.rotate_blindly.ensures.words c.extract_into.ensures
+    shape c.room.invariant.0 (cc) c.ggsws.ensures c.words.ensures c.start.ensures.words c.rotate_blindly.ensures.words (cc)
 
 pub returns-clause-near : goal.returns-clause-near
 returns-clause-near c =

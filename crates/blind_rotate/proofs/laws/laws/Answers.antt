@@ -1,7 +1,7 @@
 use Rattle.blind_rotate.proofs.KeyParts.{key_parts}
 use Rattle.blind_rotate.proofs.SwitchedPhases.{PhaseServing, switched_phases}
 use Rattle.blind_rotate.proofs.Accumulators.{StepServing, accumulators}
-use Rattle.blind_rotate.proofs.Bootstraps.{BootServing, bootstraps}
+use Rattle.blind_rotate.proofs.Bootstraps.{bootstraps}
 use Rattle.blind_rotate.proofs.BootRowPlaces.{exchanges}
 use Rattle.blind_rotate.proofs.laws.laws.Goals as goal
 
