@@ -1,0 +1,5 @@
+use Rattle.forms.proofs.FormRanges.{leaf_in, form_in}
+use Rattle.forms.proofs.laws.laws.Goals as goal
+
+pub returns : goal.returns
+returns c = record { leaf = leaf_in; form = form_in }
