@@ -1,0 +1,3 @@
+mod Examples
+pub mod Nodes
+pub mod Counting
