@@ -1,6 +1,6 @@
 -- A form is a constant and terms; a term is the number of a leaf and its weight. A range is its least and its greatest
 -- number.
-use Rattle.std.specs.Prelude.{ℕ, List, [], ◌∷◌, map, ℤ, pos, ◌+ℤ◌, ◌-ℤ◌, ◌*ℤ◌, ◌≤ℤ◌, int_lt, if◌then◌else◌}
+use Rattle.std.specs.Prelude.{ℕ, ◌+◌, ◌≤◌, All, List, [], ◌∷◌, map, ℤ, pos, ◌+ℤ◌, ◌-ℤ◌, ◌*ℤ◌, ◌≤ℤ◌, int_lt, if◌then◌else◌}
 use Rattle.std.specs.List.{slice_index_or}
 
 -- the sum of these numbers
@@ -20,13 +20,21 @@ form_value constant terms values = constant +ℤ int_sum (map (λ t. t.1 *ℤ nu
 abbrev pub range_at : List (ℤ × ℤ) → ℕ → ℤ × ℤ
 range_at ranges place = slice_index_or ranges place (pos 0, pos 0)
 
--- the least value of a term: its weight times the end of the leaf's range that the weight's sign calls for
+-- the end of a leaf's range at which a term is least: the greatest one for a weight below 0
+abbrev pub least_end : List (ℤ × ℤ) → ℕ × ℤ → ℤ
+least_end ranges t = if int_lt t.1 (pos 0) then (range_at ranges t.0).1 else (range_at ranges t.0).0
+
+-- the end at which it is greatest
+abbrev pub greatest_end : List (ℤ × ℤ) → ℕ × ℤ → ℤ
+greatest_end ranges t = if int_lt t.1 (pos 0) then (range_at ranges t.0).0 else (range_at ranges t.0).1
+
+-- the least value of a term
 abbrev pub least_of_term : List (ℤ × ℤ) → ℕ × ℤ → ℤ
-least_of_term ranges t = t.1 *ℤ (if int_lt t.1 (pos 0) then (range_at ranges t.0).1 else (range_at ranges t.0).0)
+least_of_term ranges t = t.1 *ℤ least_end ranges t
 
 -- the greatest value of a term
 abbrev pub greatest_of_term : List (ℤ × ℤ) → ℕ × ℤ → ℤ
-greatest_of_term ranges t = t.1 *ℤ (if int_lt t.1 (pos 0) then (range_at ranges t.0).0 else (range_at ranges t.0).1)
+greatest_of_term ranges t = t.1 *ℤ greatest_end ranges t
 
 -- the range of a form where the leaves have these ranges: its constant, and the ends of its terms
 abbrev pub form_range : ℤ → List (ℕ × ℤ) → List (ℤ × ℤ) → ℤ × ℤ
@@ -48,3 +56,12 @@ AreIn [] [] = Unit {0}
 AreIn (range ∷ ranges) (value ∷ values) = IsIn range value × AreIn ranges values
 AreIn [] (value ∷ values) = ⊥
 AreIn (range ∷ ranges) [] = ⊥
+
+-- no range is empty
+abbrev pub AreRanges : List (ℤ × ℤ) → Type 0
+AreRanges ranges = All (λ range. range.0 ≤ℤ range.1) ranges
+
+-- terms rise in their leaves, from this one on, so that no leaf has two
+abbrev pub AreRising : ℕ → List (ℕ × ℤ) → Type 0
+AreRising low [] = Unit {0}
+AreRising low (t ∷ terms) = (low ≤ t.0) × AreRising (t.0 + 1) terms

@@ -2,7 +2,7 @@
 
 ghost use Rattle.forms.specs.Laws.{FormLaws};
 
-/// The value of a form lies in its range.
+/// The value of a form lies in its range, whose ends are reached.
 #[inline]
 pub fn laws()
     ensures { FormLaws }
