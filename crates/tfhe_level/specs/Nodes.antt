@@ -1,5 +1,5 @@
 -- What a circuit computes on whole numbers, node by node. Nothing here speaks of a ciphertext.
-use Rattle.std.specs.Prelude.{ℕ, List, [], ◌∷◌, length, map, filter, fold, ℤ, pos, unsigned_abs}
+use Rattle.std.specs.Prelude.{List, [], ◌∷◌, length, map, filter, fold, ℤ, pos, unsigned_abs}
 use Rattle.std.specs.List.{zip}
 use Rattle.std.specs.Int.{int_min, int_max}
 use Rattle.ir_core.specs.Placed.{operations_of}

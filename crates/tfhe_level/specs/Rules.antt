@@ -1,8 +1,8 @@
 -- The rules that the nodes, the outs and the width of a circuit keep.
-use Rattle.std.specs.Prelude.{◌≡◌, ◌≢◌, ℕ, ◌+◌, ◌^◌, ◌<◌, ◌≤◌, ◌==◌, Bool, true, false, not, List, [], ◌∷◌, ◌++◌, length, map, filter, count_by, All, IsTrue, IsSomeAnd, slice_get, ℤ, pos, ◌+ℤ◌, ◌-ℤ◌, ◌<ℤ◌, ◌≤ℤ◌, unsigned_abs, if◌then◌else◌}
+use Rattle.std.specs.Prelude.{◌≡◌, ◌≢◌, ℕ, ◌^◌, ◌<◌, ◌≤◌, ◌==◌, Bool, true, false, not, List, [], ◌∷◌, ◌++◌, length, map, filter, count_by, All, IsTrue, IsSomeAnd, slice_get, ℤ, pos, ◌+ℤ◌, ◌<ℤ◌, ◌≤ℤ◌, unsigned_abs, if◌then◌else◌}
 use Rattle.std.specs.List.{zip, list_any}
 use Rattle.ir_core.specs.Placed.{IsPlaced}
-use Rattle.forms.specs.Forms.{range_at, span_of}
+use Rattle.forms.specs.Forms.{range_at, span_of, AreRising}
 use Rattle.tfhe_level.specs.declared.level.TfheOp.{TfheOp}
 use Rattle.tfhe_level.specs.declared.level.TfheOp.TheVariants.{Input, Lin, Switch, Boot, Out}
 use Rattle.tfhe_level.specs.declared.shape.Shape.{Shape}
@@ -43,12 +43,7 @@ pub record IsTerm (earlier : List TfheOp) (term : ℕ × ℤ) : Type 0 where
   pub weight : term.1 ≢ pos 0
   pub size : unsigned_abs term.1 ≤ most_weight
 
--- terms rise in their numbers, from this number on
-abbrev pub AreRising : ℕ → List (ℕ × ℤ) → Type 0
-AreRising low [] = Unit {0}
-AreRising low (t ∷ terms) = (low ≤ t.0) × AreRising (t.0 + 1) terms
-
--- a weighted sum has a constant within its limit, and terms that rise
+-- a weighted sum has a constant within its limit, and terms that rise in their operands
 pub record IsLinNode (earlier : List TfheOp) (constant : ℤ) (terms : List (ℕ × ℤ)) : Type 0 where
   pub size : unsigned_abs constant ≤ most_constant
   pub each : All (IsTerm earlier) terms

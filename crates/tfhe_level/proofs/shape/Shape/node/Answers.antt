@@ -1,6 +1,5 @@
-use Rattle.std.proofs.Common.{arith, length}
+use Rattle.std.proofs.Common.{arith}
 use Rattle.std.proofs.lemmas.List.{length-map}
-use Rattle.ir_core.specs.Graph.{Operations}
 use Rattle.tfhe_level.proofs.Nodes.{node_there, node_few}
 use Rattle.tfhe_level.proofs.shape.Shape.node.Goals as goal
 
