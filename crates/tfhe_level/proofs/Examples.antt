@@ -1,13 +1,13 @@
 -- the definitions on worked circuits
 use Rattle.std.proofs.Common.{◌≡◌, pos, List, [], ◌∷◌, refl}
-use lib.IntN.{ℤ, negsuc}
+use lib.IntN.{negsuc}
 use Rattle.tfhe_level.specs.declared.level.TfheOp.{TfheOp}
 use Rattle.tfhe_level.specs.declared.level.TfheOp.TheVariants.{Input, Lin, Switch, Boot, Out}
 use Rattle.tfhe_level.specs.Nodes.{clear_values, node_ranges}
 use Rattle.tfhe_level.specs.Counts.{counts_of}
 
 -- 1, 2 and 3 times three inputs, and the squares of the sum modulo 16
-abbrev squares : List TfheOp
+abbrev pub squares : List TfheOp
 squares =
     Input (pos 0) (pos 3) ∷ Input (pos 0) (pos 3) ∷ Input (pos 0) (pos 2)
     ∷ Lin (pos 0) ((0, pos 1) ∷ (1, pos 2) ∷ (2, pos 3) ∷ [])

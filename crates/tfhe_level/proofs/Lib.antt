@@ -1,3 +1,4 @@
-mod Examples
+pub mod Examples
+mod WorkedShapes
 pub mod Nodes
 pub mod Counting
