@@ -5,3 +5,4 @@ pub mod FromEarlier
 pub mod Nodes
 pub mod Counts
 pub mod Rules
+pub mod Laws

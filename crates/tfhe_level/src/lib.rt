@@ -5,6 +5,7 @@
 #![tactic(auto)]
 
 mod count;
+pub mod laws;
 mod level;
 mod limits;
 mod shape;
