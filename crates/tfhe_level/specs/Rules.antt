@@ -97,7 +97,8 @@ is_message op = if is_switch op then true else is_out op
 
 -- their ranges
 abbrev pub message_ranges : List TfheOp → List (ℤ × ℤ)
-message_ranges operations = map (λ node. node.1) (filter (λ node. is_message node.0) (zip operations (node_ranges operations)))
+message_ranges operations =
+    map (λ node. node.1) (filter (λ node. is_message node.0) (zip operations (node_ranges operations)))
 
 -- a width holds these ranges: the greatest number of each less the least one is below 2^width
 abbrev pub HoldsRanges : ℕ → List (ℤ × ℤ) → Type 0

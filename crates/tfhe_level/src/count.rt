@@ -44,7 +44,8 @@ fn with_node(counts: Counts, op: &TfheOp) -> Counts
     }
 }
 
-/// How many key switches and bootstraps a circuit has, and how many weights that are not 0 its weighted sums have in all.
+/// How many key switches and bootstraps a circuit has, and how many weights that are not 0 its weighted sums have in
+/// all.
 pub fn counts(shape: &Shape) -> Counts
     requires { IsPlaced shape.now.graph }
     ensures { result ≡ counts_of (nodes_of shape.now) }

@@ -14,8 +14,8 @@ pub enum Held {
     Small,
 }
 
-/// An operation of a circuit (Bergerat et al. 2023: dot products, key switches and bootstraps). Each operand is the number
-/// of an earlier operation.
+/// An operation of a circuit (Bergerat et al. 2023: dot products, key switches and bootstraps). Each operand is the
+/// number of an earlier operation.
 #[derive(Debug, Drop)]
 pub enum TfheOp {
     /// An input, from `lo` to `hi`.

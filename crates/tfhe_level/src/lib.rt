@@ -1,7 +1,7 @@
 //! The level of circuits: inputs, weighted sums, key switches, bootstraps and outs, in a graph.
 //!
-//! `level` has the operations, `shape` the circuits made of them, and `specs` what they compute on whole numbers and the
-//! rules that they keep.
+//! `level` has the operations, `shape` the circuits made of them, and `specs` what they compute on whole numbers and
+//! the rules that they keep.
 #![tactic(auto)]
 
 mod count;

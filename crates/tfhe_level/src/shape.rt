@@ -33,8 +33,8 @@ impl Shape {
         }
     }
 
-    /// Adds an operation at the end, and answers its number. For want of memory alone it hands the operation back, and the
-    /// circuit is as it was.
+    /// Adds an operation at the end, and answers its number. For want of memory alone it hands the operation back, and
+    /// the circuit is as it was.
     pub fn push(&mut self, op: TfheOp) -> Result<u32, Returned<TfheOp>>
         requires placed { IsPlaced self.old.graph }
         requires earlier { All (λ operand. operand < length (nodes_of self.old)) (operands_of op) }
