@@ -4,7 +4,7 @@ use Rattle.fhe_params.specs.declared.params.Params.{Params}
 use Rattle.tfhe_level.specs.declared.level.TfheOp.{TfheOp}
 use Rattle.tfhe_level.specs.declared.level.TfheOp.TheVariants.{Input, Lin, Switch, Boot, Out}
 use Rattle.noise_model.specs.Bounds.{noise_bounds, switch_noise, boot_noise}
-use Rattle.noise_model.specs.Constraints.{key_words, modulus_noise}
+use Rattle.noise_model.specs.Constraints.{modulus_noise}
 
 -- one choice at N 256 or 16, with small keys
 abbrev small_params : ℕ → Params
@@ -47,6 +47,3 @@ bounds_of_squares = refl
 
 modulus_noises : modulus_noise (small_params 8) ∷ modulus_noise (small_params 4) ∷ modulus_noise large_params ∷ [] ≡ 54043195528445952 ∷ 864691128455135232 ∷ 112589990684262400 ∷ []
 modulus_noises = refl
-
-words_of_keys : key_words (small_params 8) ≡ 46592
-words_of_keys = refl

@@ -12,9 +12,6 @@ shifted_most i j le few =
 pub two_most : (a b x y : ℕ) → a ≤ x → b ≤ y → a * b ≤ x * y
 two_most a b x y p q = mul-le-mul p q
 
-pub three_most : (a b c x y z : ℕ) → a ≤ x → b ≤ y → c ≤ z → a * b * c ≤ x * y * z
-three_most a b c x y z p q r = mul-le-mul (mul-le-mul p q) r
-
 pub four_most : (a b c d x y z w : ℕ) → a ≤ x → b ≤ y → c ≤ z → d ≤ w → a * b * c * d ≤ x * y * z * w
 four_most a b c d x y z w p q r s = mul-le-mul (mul-le-mul (mul-le-mul p q) r) s
 

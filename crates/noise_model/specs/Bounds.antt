@@ -1,4 +1,5 @@
--- How far the ciphertext of a node may be off, in parts of 2^64: worst cases, where Bergerat et al. 2023 take variances.
+-- How far the ciphertext of a node may be off, in parts of 2^64: worst cases, where Bergerat et al. 2023 take
+-- variances.
 use Rattle.std.specs.Prelude.{ℕ, ◌+◌, ◌-◌, ◌*◌, ◌^◌, min, List, [], slice_index, unsigned_abs}
 use Rattle.std.specs.List.{sum_by}
 use Rattle.fhe_params.specs.declared.params.Params.{Params}
@@ -7,8 +8,8 @@ use Rattle.tfhe_level.specs.declared.level.TfheOp.{TfheOp}
 use Rattle.tfhe_level.specs.declared.level.TfheOp.TheVariants.{Input, Lin, Switch, Boot, Out}
 use Rattle.tfhe_level.specs.FromEarlier.{from_earlier}
 
--- what a key switch adds: for each row the greatest digit times the error, and for each one of the big key half the weight
--- of the last place, which rounding may leave
+-- what a key switch adds: for each row the greatest digit times the error, and for each one of the big key half the
+-- weight of the last place, which rounding may leave
 abbrev pub switch_noise : Params → ℕ
 switch_noise p =
     big_dimension p * p.switch.level * 2 ^ (p.switch.base - 1) * p.lwe.error

@@ -3,7 +3,7 @@ use Rattle.std.specs.Prelude.{ℕ, ◌+◌, ◌-◌, ◌*◌, ◌^◌, ◌<◌, 
 use Rattle.std.specs.List.{enumerate_from, list_any}
 use Rattle.std.specs.Option.{option_map}
 use Rattle.fhe_params.specs.declared.params.Params.{Params}
-use Rattle.fhe_params.specs.Params.{coefficients, big_dimension}
+use Rattle.fhe_params.specs.Cost.{key_words_of}
 use Rattle.tfhe_level.specs.declared.level.TfheOp.{TfheOp}
 use Rattle.tfhe_level.specs.declared.level.TfheOp.TheVariants.{Boot, Out}
 use Rattle.tfhe_level.specs.declared.shape.Shape.{Shape}
@@ -14,13 +14,7 @@ use Rattle.noise_model.specs.declared.constraints.Constraint.TheVariants.{Size, 
 use Rattle.noise_model.specs.declared.constraints.Broken.{Broken}
 use Rattle.noise_model.specs.Bounds.{noise_bound, capped}
 
--- the words of the evaluation keys: the rows of the switch key, and those of the boot key
-abbrev pub key_words : Params → ℕ
-key_words p =
-    big_dimension p * p.switch.level * (p.lwe.n + 1)
-    + p.lwe.n * ((p.glwe.k + 1) * (p.glwe.k + 1)) * p.boot.level * coefficients p.glwe
-
--- at most so many: 256 MiB
+-- the most words of evaluation keys: 256 MiB
 abbrev pub most_key_words : ℕ
 most_key_words = 2 ^ 25
 
@@ -72,7 +66,7 @@ out_source _ = None
 abbrev pub size_constraint : Params → List TfheOp → List Comparison
 size_constraint p operations =
     if list_any is_boot operations
-    then record { on = Size; bound = key_words p; limit = most_key_words } ∷ []
+    then record { on = Size; bound = key_words_of p; limit = most_key_words } ∷ []
     else []
 
 -- a bootstrap, counted from 0: the bound of its key switch, and what the modulus switch adds

@@ -110,9 +110,9 @@ fn node_bound(op: &TfheOp, params: &Params, noise: Noise, bounds: &[u128]) -> u1
     }
 }
 
-/// Computes the bound of each operation: for an input the error of fresh ciphertexts, for a weighted sum the sizes of the
-/// weights times the bounds, for a key switch its operand's and what it adds, and for a bootstrap what it leaves (worst
-/// cases, where Bergerat et al. 2023 take variances). Each is the least of itself and 2^64.
+/// Computes the bound of each operation: for an input the error of fresh ciphertexts, for a weighted sum the sizes of
+/// the weights times the bounds, for a key switch its operand's and what it adds, and for a bootstrap what it leaves
+/// (worst cases, where Bergerat et al. 2023 take variances). Each is the least of itself and 2^64.
 pub fn edge_bounds(shape: &Shape, params: &Params, room: &mut BoundRoom)
     requires placed { IsPlaced shape.now.graph }
     requires params { IsParams params.now }

@@ -14,8 +14,8 @@ ghost use Rattle.noise_model.specs.Edges.{source_of, added_at, constraint_at, ed
 
 use crate::bounds::{BoundRoom, edge_bounds};
 use crate::cap::cap_add;
-use crate::noise::{key_words, modulus_noise};
-use fhe_params::Params;
+use crate::noise::modulus_noise;
+use fhe_params::{Params, key_words};
 use tfhe_level::{Shape, TfheOp};
 
 /// The most words of evaluation keys: 256 MiB.
@@ -32,8 +32,8 @@ pub enum Constraint {
     Result(u32),
 }
 
-/// A broken constraint: the least of its bound and 2^64, and its limit. For the size both are in words, else in parts of
-/// 2^64.
+/// A broken constraint: the least of its bound and 2^64, and its limit. For the size both are in words, else in parts
+/// of 2^64.
 #[derive(Clone, Copy, Debug, PartialEq, Eq)]
 pub struct Broken {
     pub at: Constraint,
@@ -102,7 +102,8 @@ fn first_edge_over(shape: &Shape, params: &Params, edge: Edge, room: &BoundRoom)
     requires params { IsParams params.now }
     requires width { shape.now.width ≤ most_width }
     requires room { room.now ≡ map capped (noise_bounds params.now (nodes_of shape.now)) }
-    ensures { result ≡ option_map as_broken (find is_broken (edge_constraints edge params.now shape.now (nodes_of shape.now))) }
+    ensures { result
+        ≡ option_map as_broken (find is_broken (edge_constraints edge params.now shape.now (nodes_of shape.now))) }
 {
     let limit = half_step(shape.width);
     let added = added_at(edge, params);
@@ -152,7 +153,7 @@ fn size_over(shape: &Shape, params: &Params) -> Option<Broken>
     if !has_boot(shape) {
         return None;
     }
-    let words = key_words(params);
+    let words = u128::from(key_words(params));
     if words > MOST_KEY_WORDS {
         return Some(Broken {
             at: Constraint::Size,
@@ -191,9 +192,9 @@ fn constraint_over(shape: &Shape, params: &Params, room: &BoundRoom) -> Option<B
     }
 }
 
-/// The first constraint that these parameters break: the size of the keys where there is a bootstrap, then each bootstrap
-/// and then each out, in order. A bootstrap is kept where the bound of its key switch and of the modulus switch is below
-/// half a step, an out where its bound is. It takes no memory and goes once over the terms of the circuit.
+/// The first constraint that these parameters break: the size of the keys where there is a bootstrap, then each
+/// bootstrap and then each out, in order. A bootstrap is kept where the bound of its key switch and of the modulus switch
+/// is below half a step, an out where its bound is. It takes no memory and goes once over the terms of the circuit.
 pub fn first_broken(shape: &Shape, params: &Params, room: &mut BoundRoom) -> Option<Broken>
     requires placed { IsPlaced shape.now.graph }
     requires params { IsParams params.now }

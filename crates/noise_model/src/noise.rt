@@ -3,7 +3,7 @@
 ghost use Rattle.std.specs.Prelude.{◌≡◌, ◌≤◌, ◌+◌, ◌-◌, ◌*◌, ◌^◌};
 ghost use Rattle.fhe_params.specs.Params.{IsParams, IsGadget, coefficients, big_dimension};
 ghost use Rattle.noise_model.specs.Bounds.{switch_noise, rows_noise, digits_noise, boot_noise, capped};
-ghost use Rattle.noise_model.specs.Constraints.{key_words, modulus_noise};
+ghost use Rattle.noise_model.specs.Constraints.{modulus_noise};
 
 use crate::cap::cap;
 use fhe_params::{Gadget, GlweChoice, Params, dimension};
@@ -82,18 +82,6 @@ pub(crate) fn modulus_noise(params: &Params) -> u128
 {
     let half_place: u128 = 1 << (62 - params.glwe.log_n);
     cap(u128::from(1 + params.lwe.ones) * half_place)
-}
-
-/// The words of the evaluation keys.
-pub(crate) fn key_words(params: &Params) -> u128
-    requires { IsParams params.now }
-    ensures value { result ≡ key_words params.now }
-    ensures most { result ≤ 2 ^ 40 }
-{
-    let switch_rows = u128::from(dimension(params)) * u128::from(params.switch.level);
-    let parts = u128::from(params.glwe.k + 1);
-    let boot_rows = u128::from(params.lwe.n) * (parts * parts) * u128::from(params.boot.level);
-    switch_rows * u128::from(params.lwe.n + 1) + boot_rows * coefficients(params.glwe)
 }
 
 /// What the operations of a circuit add to the noise under its parameters, at most 2^64 each.
