@@ -3,3 +3,4 @@ pub mod Uses
 pub mod Kept
 pub mod Renaming
 pub mod Sorting
+pub mod PlacedGraphs

@@ -1,1 +1,3 @@
 pub mod Graph
+pub mod Placed
+pub mod Laws

@@ -1,13 +1,39 @@
 //! Walks over a list of operations, each in one pass.
 
-ghost use Rattle.std.specs.Prelude.{◌≡◌, ◌<◌, ◌≤◌, ◌^◌, ◌++◌, length, slice_get, All, IfOk};
+ghost use Rattle.std.specs.Prelude.{◌≡◌, ◌<◌, ◌≤◌, ◌^◌, ◌++◌, ◌↔◌, nat_eq, length, slice_get, All, IfOk, IsTrue};
+ghost use Rattle.std.specs.List.{IsDistinct};
 ghost use Rattle.ir_core.specs.Graph.{numbers_of, place_of, renamed_in, renamed_list, uses_from, uses_of};
 
 use crate::Level;
 use std::alloc::{AllocError, Global};
 
 /// How many operations stand before the one with that number: all of them where none has it.
+///
+/// Where operations were only pushed, a number is its place, so that place is tried first.
 pub(crate) fn find_place<T>(entries: &[(u32, T)], value: u32) -> usize
+    requires { IsDistinct nat_eq (numbers_of entries.now) }
+    ensures place { result ≡ place_of entries.now value }
+    ensures within { result ≤ length entries.now }
+{
+    let place = value as usize;
+    if has_number_at(entries, place, value) {
+        return place;
+    }
+    scan_for_place(entries, value)
+}
+
+/// Whether the operation at a place has that number.
+fn has_number_at<T>(entries: &[(u32, T)], at: usize, value: u32) -> bool
+    ensures { IsTrue result ↔ (slice_get (numbers_of entries.now) at ≡ Some value) }
+{
+    match number_at(entries, at) {
+        Some(number) => number == value,
+        None => false,
+    }
+}
+
+/// How many operations stand before the one with that number, found by looking at one after the other.
+fn scan_for_place<T>(entries: &[(u32, T)], value: u32) -> usize
     ensures place { result ≡ place_of entries.now value }
     ensures within { result ≤ length entries.now }
 {

@@ -1,6 +1,6 @@
 use Rattle.std.proofs.Common.{◌≡◌, ◌+◌, drop}
 use Rattle.ir_core.specs.Graph.{place_of}
-use Rattle.ir_core.proofs.walks.find_place.Given as goal
+use Rattle.ir_core.proofs.walks.scan_for_place.Given as goal
 
 -- the value stands at none of the places so far
 abbrev pub invariant-loop-place : goal.invariant-loop-place

@@ -1,0 +1,2 @@
+pub mod FormRanges
+pub mod Corners

@@ -1,0 +1,5 @@
+pub mod Examples
+mod WorkedShapes
+pub mod Nodes
+pub mod Counting
+pub mod ValueRanges

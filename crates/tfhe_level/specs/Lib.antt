@@ -1,0 +1,8 @@
+pub mod Limits
+pub mod Operations
+pub mod PutOperands
+pub mod FromEarlier
+pub mod Nodes
+pub mod Counts
+pub mod Rules
+pub mod Laws
