@@ -1,0 +1,4 @@
+pub mod Masks
+pub mod Bits
+pub mod Places
+pub mod Fitting
