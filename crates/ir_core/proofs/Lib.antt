@@ -4,3 +4,4 @@ pub mod Kept
 pub mod Renaming
 pub mod Sorting
 pub mod PlacedGraphs
+pub mod OperationAt

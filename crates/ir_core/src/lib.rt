@@ -10,6 +10,7 @@ ghost use Rattle.std.specs.List.Sorted.{IsPermutation};
 use std::alloc::{AllocError, AllocFailed, Global};
 use std::marker::Model;
 
+mod by_place;
 pub mod laws;
 #[cfg(test)]
 mod tests;

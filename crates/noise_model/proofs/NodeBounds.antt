@@ -10,7 +10,7 @@ use Rattle.fhe_params.specs.declared.params.Params.{Params}
 use Rattle.tfhe_level.specs.declared.level.TfheOp.{TfheOp}
 use Rattle.tfhe_level.specs.declared.level.TfheOp.TheVariants.{Input, Lin, Switch, Boot, Out}
 use Rattle.tfhe_level.specs.Operations.{operands_of}
-use Rattle.tfhe_level.specs.FromEarlier.{from_earlier_push, length-from_earlier}
+use Rattle.forms.specs.FromEarlier.{from_earlier_push, length-from_earlier}
 use Rattle.noise_model.specs.Bounds.{switch_noise, bound_of, noise_bounds, capped}
 use Rattle.noise_model.proofs.CappedSums.{capped-add, capped-add_left, capped-mul}
 

@@ -6,7 +6,7 @@ use Rattle.fhe_params.specs.declared.params.Params.{Params}
 use Rattle.fhe_params.specs.Params.{coefficients, big_dimension}
 use Rattle.tfhe_level.specs.declared.level.TfheOp.{TfheOp}
 use Rattle.tfhe_level.specs.declared.level.TfheOp.TheVariants.{Input, Lin, Switch, Boot, Out}
-use Rattle.tfhe_level.specs.FromEarlier.{from_earlier}
+use Rattle.forms.specs.FromEarlier.{from_earlier}
 
 -- what a key switch adds: for each row the greatest digit times the error, and for each one of the big key half the
 -- weight of the last place, which rounding may leave

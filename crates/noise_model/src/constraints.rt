@@ -5,7 +5,7 @@ ghost use Rattle.std.specs.List.{enumerate_from, list_any};
 ghost use Rattle.std.specs.Option.{option_map};
 ghost use Rattle.ir_core.specs.Placed.{IsPlaced};
 ghost use Rattle.fhe_params.specs.Params.{IsParams};
-ghost use Rattle.tfhe_level.specs.Limits.{most_width};
+ghost use Rattle.forms.specs.Limits.{most_width};
 ghost use Rattle.tfhe_level.specs.Operations.{operands_of, is_boot};
 ghost use Rattle.tfhe_level.specs.Nodes.{nodes_of};
 ghost use Rattle.noise_model.specs.Bounds.{noise_bounds, capped};

@@ -3,7 +3,7 @@
 ghost use Rattle.std.specs.Prelude.{IfOk, ◌≡◌, ◌<◌, ◌≤◌, ◌^◌};
 ghost use Rattle.ir_core.specs.Placed.{IsPlaced};
 ghost use Rattle.fhe_params.specs.Params.{IsParams};
-ghost use Rattle.tfhe_level.specs.Limits.{most_width};
+ghost use Rattle.forms.specs.Limits.{most_width};
 
 use super::*;
 use fhe_params::{Gadget, GlweChoice, LweChoice, Params};

@@ -1,5 +1,4 @@
 pub mod Examples
 mod WorkedShapes
-pub mod Nodes
 pub mod Counting
 pub mod ValueRanges

@@ -14,8 +14,9 @@ use Rattle.forms.specs.Laws.{FormLaws}
 use Rattle.tfhe_level.specs.declared.level.TfheOp.{TfheOp}
 use Rattle.tfhe_level.specs.declared.level.TfheOp.TheVariants.{Input, Lin, Switch, Boot, Out}
 use Rattle.tfhe_level.specs.Operations.{is_input, is_leaf, is_switch, is_big_node}
-use Rattle.tfhe_level.specs.FromEarlier.{from_earlier_push, length-from_earlier}
-use Rattle.tfhe_level.specs.Nodes.{value_of, node_values, range_of_entries, range_of, node_ranges}
+use Rattle.forms.specs.FromEarlier.{from_earlier_push, length-from_earlier}
+use Rattle.forms.specs.Ranges.{range_of_entries}
+use Rattle.tfhe_level.specs.Nodes.{value_of, node_values, range_of, node_ranges}
 use Rattle.tfhe_level.specs.Rules.{Stands, IsTerm, KeepsRule, KeepRules}
 use Rattle.tfhe_level.specs.Laws.{input_range, input_ranges}
 

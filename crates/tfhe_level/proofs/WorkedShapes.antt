@@ -9,7 +9,8 @@ use Rattle.tfhe_level.specs.declared.level.TfheOp.{TfheOp}
 use Rattle.tfhe_level.specs.declared.level.TfheOp.TheVariants.{Input, Lin, Out}
 use Rattle.tfhe_level.specs.declared.shape.Shape.{Shape}
 use Rattle.tfhe_level.specs.Operations.{is_input}
-use Rattle.tfhe_level.specs.Rules.{IsNumber, IsTerm, KeepRules, HoldsRanges, IsLeastWidth, IsShape, message_ranges}
+use Rattle.forms.specs.Ranges.{IsNumber, HoldsRanges, IsLeastWidth}
+use Rattle.tfhe_level.specs.Rules.{IsTerm, KeepRules, IsShape, message_ranges}
 use Rattle.tfhe_level.proofs.Examples.{squares}
 
 -- these operations, numbered by their places

@@ -1,7 +1,6 @@
 pub mod Limits
 pub mod Operations
 pub mod PutOperands
-pub mod FromEarlier
 pub mod Nodes
 pub mod Counts
 pub mod Rules

@@ -1,14 +1,14 @@
 -- What a circuit computes on whole numbers, node by node. Nothing here speaks of a ciphertext.
-use Rattle.std.specs.Prelude.{List, [], ◌∷◌, length, map, filter, fold, ℤ, pos, unsigned_abs}
+use Rattle.std.specs.Prelude.{List, [], length, map, filter, ℤ, unsigned_abs}
 use Rattle.std.specs.List.{zip}
-use Rattle.std.specs.Int.{int_min, int_max}
 use Rattle.ir_core.specs.Placed.{operations_of}
 use Rattle.forms.specs.Forms.{number_at, range_at, form_value, form_range}
+use Rattle.forms.specs.Ranges.{range_of_entries}
+use Rattle.forms.specs.FromEarlier.{from_earlier}
 use Rattle.tfhe_level.specs.declared.level.TfheOp.{TfheOp}
 use Rattle.tfhe_level.specs.declared.level.TfheOp.TheVariants.{Input, Lin, Switch, Boot, Out}
 use Rattle.tfhe_level.specs.declared.shape.Shape.{Shape}
 use Rattle.tfhe_level.specs.Operations.{is_out}
-use Rattle.tfhe_level.specs.FromEarlier.{from_earlier}
 
 -- the nodes of a shape, and then its outs: the operations in order
 abbrev pub nodes_of : Shape → List TfheOp
@@ -38,11 +38,6 @@ abbrev pub clear_values : List TfheOp → List ℤ → List ℤ
 clear_values nodes inputs = at_outs nodes (node_values nodes inputs)
 
 -- ---- ranges
-
--- from the least to the greatest of the entries
-abbrev pub range_of_entries : List ℤ → ℤ × ℤ
-range_of_entries [] = (pos 0, pos 0)
-range_of_entries (entry ∷ entries) = (fold int_min entry entries, fold int_max entry entries)
 
 -- the range of an operation, from those of the operations before it
 abbrev pub range_of : List (ℤ × ℤ) → TfheOp → ℤ × ℤ

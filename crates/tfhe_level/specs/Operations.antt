@@ -1,6 +1,7 @@
 -- The operands of an operation, and the kinds of operations.
-use Rattle.std.specs.Prelude.{ℕ, Bool, true, false, List, [], ◌∷◌, map, ℤ}
+use Rattle.std.specs.Prelude.{ℕ, Bool, true, false, List, [], ◌∷◌}
 use Rattle.std.specs.List.{slice_index_or}
+use Rattle.forms.specs.Terms.{leaves_of, terms_on}
 use Rattle.tfhe_level.specs.declared.level.Held.{Held}
 use Rattle.tfhe_level.specs.declared.level.Held.TheVariants.{Big, Small}
 use Rattle.tfhe_level.specs.declared.level.TfheOp.{TfheOp}
@@ -11,16 +12,10 @@ use Rattle.tfhe_level.specs.declared.level.TfheOp.TheVariants.{Input, Lin, Switc
 -- the numbers of the operands, in order
 abbrev pub operands_of : TfheOp → List ℕ
 operands_of (Input lo hi) = []
-operands_of (Lin constant terms) = map (λ t. t.0) terms
+operands_of (Lin constant terms) = leaves_of terms
 operands_of (Switch source) = source ∷ []
 operands_of (Boot source entries) = source ∷ []
 operands_of (Out source lo hi) = source ∷ []
-
--- the terms on these operands, one for one, with the weights as they are
-abbrev pub terms_on : List (ℕ × ℤ) → List ℕ → List (ℕ × ℤ)
-terms_on [] operands = []
-terms_on (t ∷ terms) [] = t ∷ terms
-terms_on (t ∷ terms) (operand ∷ operands) = (operand, t.1) ∷ terms_on terms operands
 
 -- the first of these operands, where there is one
 abbrev pub first_of : List ℕ → ℕ → ℕ

@@ -1,30 +1,9 @@
 -- operands that are put in place of others
-use Rattle.std.proofs.Common.{◌≡◌, ℕ, zero, suc, ◌<◌, List, [], ◌∷◌, length, map, set, get_or, ℤ, refl, ap, sym, arith}
+use Rattle.std.proofs.Common.{◌≡◌, ℕ, List, [], ◌∷◌, length, refl, ap, arith}
+use Rattle.forms.specs.Terms.{terms_on-read, terms_on-own, terms_on-terms_on}
 use Rattle.tfhe_level.specs.declared.level.TfheOp.{TfheOp}
 use Rattle.tfhe_level.specs.declared.level.TfheOp.TheVariants.{Input, Lin, Switch, Boot, Out}
-use Rattle.tfhe_level.specs.Operations.{operands_of, terms_on, first_of, with_operands, held_of}
-
-terms_on-read : (terms : List (ℕ × ℤ)) (operands : List ℕ) → length operands ≡ length (map (λ (t : ℕ × ℤ). t.0) terms) → map (λ (t : ℕ × ℤ). t.0) (terms_on terms operands) ≡ operands
-terms_on-read [] [] same = refl
-terms_on-read [] (operand ∷ operands) same = absurd (omega arith)
-terms_on-read (t ∷ terms) [] same = absurd (omega arith)
-terms_on-read (t ∷ terms) (operand ∷ operands) same = ap (λ rest. operand ∷ rest) (terms_on-read terms operands (omega arith))
-
-terms_on-own : (terms : List (ℕ × ℤ)) → terms_on terms (map (λ (t : ℕ × ℤ). t.0) terms) ≡ terms
-terms_on-own [] = refl
-terms_on-own (t ∷ terms) = ap (λ rest. t ∷ rest) (terms_on-own terms)
-
--- the terms on their own operands but for one
-pub terms_on-set : (terms : List (ℕ × ℤ)) (at operand : ℕ) (d : ℕ × ℤ) → at < length terms → set terms at (operand, (get_or terms at d).1) ≡ terms_on terms (set (map (λ (t : ℕ × ℤ). t.0) terms) at operand)
-terms_on-set [] at operand d within = absurd (omega arith)
-terms_on-set (t ∷ terms) zero operand d within = ap (λ rest. (operand, t.1) ∷ rest) (sym (terms_on-own terms))
-terms_on-set (t ∷ terms) (suc at) operand d within = ap (λ rest. t ∷ rest) (terms_on-set terms at operand d (omega arith))
-
-terms_on-terms_on : (terms : List (ℕ × ℤ)) (first last : List ℕ) → length first ≡ length (map (λ (t : ℕ × ℤ). t.0) terms) → length last ≡ length (map (λ (t : ℕ × ℤ). t.0) terms) → terms_on (terms_on terms first) last ≡ terms_on terms last
-terms_on-terms_on [] first last same_first same_last = refl
-terms_on-terms_on (t ∷ terms) [] last same_first same_last = absurd (omega arith)
-terms_on-terms_on (t ∷ terms) (f ∷ first) [] same_first same_last = absurd (omega arith)
-terms_on-terms_on (t ∷ terms) (f ∷ first) (l ∷ last) same_first same_last = ap (λ rest. (l, t.1) ∷ rest) (terms_on-terms_on terms first last (omega arith) (omega arith))
+use Rattle.tfhe_level.specs.Operations.{operands_of, first_of, with_operands, held_of}
 
 one_operand : (source : ℕ) (operands : List ℕ) → length operands ≡ 1 → first_of operands source ∷ [] ≡ operands
 one_operand source [] same = absurd (omega arith)

@@ -1,12 +1,14 @@
 -- The rules that the nodes, the outs and the width of a circuit keep.
-use Rattle.std.specs.Prelude.{◌≡◌, ◌≢◌, ℕ, ◌^◌, ◌<◌, ◌≤◌, ◌==◌, Bool, true, false, not, List, [], ◌∷◌, ◌++◌, length, map, filter, count_by, All, IsTrue, IsSomeAnd, slice_get, ℤ, pos, ◌+ℤ◌, ◌<ℤ◌, ◌≤ℤ◌, unsigned_abs, if◌then◌else◌}
+use Rattle.std.specs.Prelude.{◌≡◌, ◌≢◌, ℕ, ◌<◌, ◌≤◌, ◌==◌, Bool, true, false, not, List, [], ◌∷◌, ◌++◌, length, map, filter, count_by, All, IsTrue, IsSomeAnd, slice_get, ℤ, pos, ◌+ℤ◌, unsigned_abs, if◌then◌else◌}
 use Rattle.std.specs.List.{zip, list_any}
 use Rattle.ir_core.specs.Placed.{IsPlaced}
 use Rattle.forms.specs.Forms.{range_at, span_of, AreRising}
+use Rattle.forms.specs.Limits.{most_inputs, most_outs, most_weight, most_constant}
+use Rattle.forms.specs.Ranges.{IsNumber, IsNumberRange, IsLeastWidth}
 use Rattle.tfhe_level.specs.declared.level.TfheOp.{TfheOp}
 use Rattle.tfhe_level.specs.declared.level.TfheOp.TheVariants.{Input, Lin, Switch, Boot, Out}
 use Rattle.tfhe_level.specs.declared.shape.Shape.{Shape}
-use Rattle.tfhe_level.specs.Limits.{most_inputs, most_lins, most_switches, most_boots, most_outs, most_weight, most_constant, least_number, most_number, most_width}
+use Rattle.tfhe_level.specs.Limits.{most_lins, most_switches, most_boots}
 use Rattle.tfhe_level.specs.Operations.{is_input, is_lin, is_switch, is_boot, is_out, is_leaf, is_big_node}
 use Rattle.tfhe_level.specs.Nodes.{nodes_of, node_ranges}
 
@@ -17,17 +19,6 @@ Stands kind operations place = IsSomeAnd (slice_get operations place) (λ op. Is
 -- the range at a place
 abbrev pub range_on : List TfheOp → ℕ → ℤ × ℤ
 range_on operations place = range_at (node_ranges operations) place
-
--- a number that an input, an entry or an out may have
-pub record IsNumber (z : ℤ) : Type 0 where
-  pub low : least_number ≤ℤ z
-  pub high : z ≤ℤ most_number
-
--- at least one number, and each of those
-pub record IsNumberRange (lo hi : ℤ) : Type 0 where
-  pub low : least_number ≤ℤ lo
-  pub rising : lo ≤ℤ hi
-  pub high : hi ≤ℤ most_number
 
 -- ---- one operation, given those before it
 
@@ -99,17 +90,6 @@ is_message op = if is_switch op then true else is_out op
 abbrev pub message_ranges : List TfheOp → List (ℤ × ℤ)
 message_ranges operations =
     map (λ node. node.1) (filter (λ node. is_message node.0) (zip operations (node_ranges operations)))
-
--- a width holds these ranges: the greatest number of each less the least one is below 2^width
-abbrev pub HoldsRanges : ℕ → List (ℤ × ℤ) → Type 0
-HoldsRanges width ranges = All (λ range. span_of range <ℤ pos (2 ^ width)) ranges
-
--- the least width from 1 that holds these ranges, which is at most 16
-pub record IsLeastWidth (ranges : List (ℤ × ℤ)) (width : ℕ) : Type 0 where
-  pub low : 1 ≤ width
-  pub high : width ≤ most_width
-  pub holds : HoldsRanges width ranges
-  pub least : (other : ℕ) → 1 ≤ other → HoldsRanges other ranges → width ≤ other
 
 -- the operations of a circuit keep the rules, and the outs stand last, at least one
 pub record AreNodes (operations : List TfheOp) : Type 0 where

@@ -1,9 +1,9 @@
 //! The operations of a circuit.
 
-ghost use Rattle.std.specs.Prelude.{◌≡◌, ◌<◌, length, map, slice_set};
-ghost use Rattle.tfhe_level.specs.Operations.{operands_of, terms_on, with_operands, held_of};
+ghost use Rattle.tfhe_level.specs.Operations.{operands_of, with_operands, held_of};
 ghost use Rattle.tfhe_level.specs.PutOperands.{put_is_read, own_put_is_same, last_put_stays, put_keeps_held};
 
+use forms::terms::set_leaf;
 use ir_core::Level;
 use lists::List;
 
@@ -45,15 +45,6 @@ pub enum TfheOp {
     },
 }
 
-/// Puts a value into the operand of the term at a place.
-fn set_term(terms: &mut List<(u32, i64)>, at: usize, value: u32)
-    requires { at < length terms.old }
-    ensures { terms.new ≡ terms_on terms.old (slice_set (map (λ t. t.0) terms.old) at value) }
-{
-    let weight = terms.as_slice()[at].1;
-    terms.set(at, (value, weight));
-}
-
 /// The level of circuits.
 pub struct TfheLevel;
 
@@ -89,7 +80,7 @@ impl Level for TfheLevel {
     fn set_operand(op: &mut TfheOp, at: usize, value: u32) {
         match op {
             TfheOp::Input { .. } => {}
-            TfheOp::Lin { terms, .. } => set_term(terms, at, value),
+            TfheOp::Lin { terms, .. } => set_leaf(terms, at, value),
             TfheOp::Switch { source } => *source = value,
             TfheOp::Boot { source, .. } => *source = value,
             TfheOp::Out { source, .. } => *source = value,

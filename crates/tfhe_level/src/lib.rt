@@ -12,10 +12,7 @@ mod shape;
 
 pub use count::counts;
 pub use level::{Held, TfheLevel, TfheOp};
-pub use limits::{
-    LEAST_NUMBER, MOST_BOOTS, MOST_CONSTANT, MOST_INPUTS, MOST_LINS, MOST_NUMBER, MOST_OUTS,
-    MOST_SWITCHES, MOST_WEIGHT, MOST_WIDTH,
-};
+pub use limits::{MOST_BOOTS, MOST_LINS, MOST_SWITCHES};
 pub use lists::List;
 pub use shape::{Circuit, Shape};
 

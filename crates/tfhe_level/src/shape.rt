@@ -47,8 +47,7 @@ impl Shape {
         ensures returned { IfErr result (λ returned. returned.op ≡ op) }
         ensures err { OnErr result (self.new ≡ self.old) }
     {
-        ir_core::laws::laws::<TfheLevel>();
-        self.graph.push(op)
+        self.graph.append(op)
     }
 
     /// How many operations there are, the outs among them.
@@ -56,8 +55,7 @@ impl Shape {
         requires { IsPlaced self.now.graph }
         ensures { result ≡ length (nodes_of self.now) }
     {
-        ir_core::laws::laws::<TfheLevel>();
-        self.graph.made()
+        self.graph.op_count()
     }
 
     /// The operation with a number.
@@ -69,9 +67,7 @@ impl Shape {
         ensures earlier { All (λ operand. operand < number) (operands_of result.now) }
         ensures few { length (operands_of result.now) < 2 ^ 32 }
     {
-        ir_core::laws::laws::<TfheLevel>();
-        self.graph.known();
-        self.graph.op(number)
+        self.graph.op_at(number)
     }
 }
 

@@ -11,22 +11,30 @@ from_earlier result_of earlier (item ∷ items) = from_earlier result_of (earlie
 -- ---- what holds of them, whatever they are
 
 -- items in two parts
-pub from_earlier-append : {A B : Type 0} (result_of : List B → A → B) (earlier : List B) (items others : List A) → from_earlier result_of earlier (items ++ others) ≡ from_earlier result_of (from_earlier result_of earlier items) others
+pub from_earlier-append : {A B : Type 0} (result_of : List B → A → B) (earlier : List B) (items others : List A)
+    → from_earlier result_of earlier (items ++ others)
+    ≡ from_earlier result_of (from_earlier result_of earlier items) others
 from_earlier-append result_of earlier [] others = refl
-from_earlier-append result_of earlier (item ∷ items) others = from_earlier-append result_of (earlier ++ result_of earlier item ∷ []) items others
+from_earlier-append result_of earlier (item ∷ items) others =
+    from_earlier-append result_of (earlier ++ result_of earlier item ∷ []) items others
 
 -- one item more
-pub from_earlier_push : {A B : Type 0} (result_of : List B → A → B) (earlier : List B) (items : List A) (item : A) → from_earlier result_of earlier (items ++ item ∷ []) ≡ from_earlier result_of earlier items ++ result_of (from_earlier result_of earlier items) item ∷ []
+pub from_earlier_push : {A B : Type 0} (result_of : List B → A → B) (earlier : List B) (items : List A) (item : A)
+    → from_earlier result_of earlier (items ++ item ∷ [])
+    ≡ from_earlier result_of earlier items ++ result_of (from_earlier result_of earlier items) item ∷ []
 from_earlier_push result_of earlier items item = from_earlier-append result_of earlier items (item ∷ [])
 
 -- how many there are
-pub length-from_earlier : {A B : Type 0} (result_of : List B → A → B) (earlier : List B) (items : List A) → length (from_earlier result_of earlier items) ≡ length earlier + length items
+pub length-from_earlier : {A B : Type 0} (result_of : List B → A → B) (earlier : List B) (items : List A)
+    → length (from_earlier result_of earlier items) ≡ length earlier + length items
 length-from_earlier result_of earlier [] = omega arith
 length-from_earlier result_of earlier (item ∷ items) =
-    omega (arith, length-from_earlier result_of (earlier ++ result_of earlier item ∷ []) items, length_push earlier (result_of earlier item))
+    let rest = length-from_earlier result_of (earlier ++ result_of earlier item ∷ []) items in
+    omega (arith, rest, length_push earlier (result_of earlier item))
 
 -- those that are there stay, with more behind them
-pub from_earlier_keeps : {A B : Type 0} (result_of : List B → A → B) (earlier : List B) (items : List A) → (more : List B) × (from_earlier result_of earlier items ≡ earlier ++ more)
+pub from_earlier_keeps : {A B : Type 0} (result_of : List B → A → B) (earlier : List B) (items : List A)
+    → (more : List B) × (from_earlier result_of earlier items ≡ earlier ++ more)
 from_earlier_keeps result_of earlier [] = ([], sym (append-nil earlier))
 from_earlier_keeps result_of earlier (item ∷ items) =
     let later = from_earlier_keeps result_of (earlier ++ result_of earlier item ∷ []) items in
