@@ -1,6 +1,5 @@
 -- What is drawn fits: the errors of rows keep their bound.
-use Rattle.std.proofs.Common.{◌≡◌, ℕ, ◌+◌, ◌-◌, ◌*◌, ◌/◌, ◌%◌, ◌^◌, ◌<◌, ◌≤◌, min, ℤ, Bool, List, [], ◌∷◌, ◌++◌, length, map, get_or, All, refl, sym, ap, subst, arith, ◌∙◌}
-use Rattle.std.specs.Int.RustNames.{unsigned_abs}
+use Rattle.std.proofs.Common.{◌≡◌, ℕ, ◌+◌, ◌-◌, ◌*◌, ◌/◌, ◌%◌, ◌^◌, ◌<◌, ◌≤◌, min, ℤ, Bool, List, [], ◌∷◌, ◌++◌, length, map, get_or, sym, ap, subst, arith, ◌∙◌}
 use Rattle.std.specs.List.{range_with_len, slice_index_or}
 use Rattle.std.proofs.lemmas.List.{length-set, length_push}
 use Rattle.std.proofs.lemmas.List.FromFn.{get_or-map-range_with_len, length-map-range_with_len}
@@ -9,7 +8,7 @@ use Rattle.std.proofs.Math.Nat.{mod-eq_of_lt}
 use Rattle.word_ring.specs.Words.{word_sum, word_difference, word_negation, size, RingLaws}
 use Rattle.word_ring.specs.Signed.{word_of, SignedLaws}
 use Rattle.seed_stream.specs.Draws.{draw, error_of, DrawLaws}
-use Rattle.lwe_core.specs.Phase.{FitsKey, phase_of, sealed}
+use Rattle.lwe_core.specs.Phase.{FitsKey, phase_of}
 use Rattle.lwe_core.specs.Decoding.{encoded}
 use Rattle.lwe_core.specs.Encrypts.{Encrypts}
 use Rattle.lwe_core.specs.Laws.{PhaseLaws, OnesLaws, NoiseLaws}
@@ -33,14 +32,17 @@ mod_twice : (n : ℕ) → n % 2 ^ 64 % 2 ^ 64 ≡ n % 2 ^ 64
 mod_twice n = mod-eq_of_lt (mod_below n (2 ^ 64) (omega arith))
 
 -- what an error adds to a message is all that is left of it
-left_over : RingLaws → (m e : ℕ) → word_difference (word_sum m e % 2 ^ 64) m ≡ e % 2 ^ 64
-left_over laws m e =
-    let once : word_sum m e % 2 ^ 64 ≡ word_sum m e = mod_twice (m + e) in
+pub left_of : RingLaws → (m e : ℕ) → word_difference (word_sum m e) m ≡ e % 2 ^ 64
+left_of laws m e =
     let opposite : word_sum (word_negation m) m ≡ 0 = laws.sum_commutative (word_negation m) m ∙ laws.sum_negation m in
-    ap (λ w. word_difference w m) once ∙ laws.difference_is (word_sum m e) m ∙ laws.sum_commutative (word_sum m e) (word_negation m)
+    laws.difference_is (word_sum m e) m ∙ laws.sum_commutative (word_sum m e) (word_negation m)
     ∙ sym (laws.sum_associative (word_negation m) m e) ∙ ap (λ w. word_sum w e) opposite ∙ laws.sum_zero e
 
-size_left : (e : ℕ) → size (e % 2 ^ 64) ≡ size e
+-- also where the sum is taken modulo 2^64 once more
+left_over : RingLaws → (m e : ℕ) → word_difference (word_sum m e % 2 ^ 64) m ≡ e % 2 ^ 64
+left_over laws m e = ap (λ w. word_difference w m) (mod_twice (m + e)) ∙ left_of laws m e
+
+pub size_left : (e : ℕ) → size (e % 2 ^ 64) ≡ size e
 size_left e = ap (λ w. min w (2 ^ 64 - w)) (mod_twice e)
 
 pub mask_long : (key : List ℕ) (place n : ℕ) → length (draws_at key place n ++ 0 ∷ []) ≡ n + 1
@@ -66,7 +68,7 @@ fresh laws key place bits value width bound = record {
       omega (arith, laws.noise.error_size (phase_of bits row) width value, row_near laws key place bits (encoded width value) bound);
 }
 
-switch_fits : LowerLaws → (key : List ℕ) (base level bound : ℕ) (big small : List Bool) → IsGadget base level → SwitchRowsFit base level bound big small (drawn_switch_key key base level bound big small).rows
+pub switch_fits : LowerLaws → (key : List ℕ) (base level bound : ℕ) (big small : List Bool) → IsGadget base level → SwitchRowsFit base level bound big small (drawn_switch_key key base level bound big small).rows
 switch_fits laws key base level bound big small gadget =
     let row = drawn_switch_row key base level bound big small in
     record {

@@ -1,4 +1,10 @@
 pub mod Masks
 pub mod Bits
 pub mod Places
+pub mod Streams
+pub mod GlweMasks
+pub mod BootPlaces
+pub mod Factors
+pub mod BootRows
 pub mod Fitting
+pub mod BootFitting

@@ -1,7 +1,7 @@
 -- The mask of a ciphertext is drawn word by word, and its body set behind it.
-use Rattle.std.proofs.Common.{◌≡◌, ℕ, ◌+◌, ◌<◌, ◌≤◌, Bool, true, false, cond, List, [], ◌∷◌, ◌++◌, length, take, set, map, refl, sym, ap, subst, arith, ◌∙◌}
+use Rattle.std.proofs.Common.{◌≡◌, ℕ, ◌+◌, Bool, cond, List, [], ◌∷◌, ◌++◌, length, take, set, refl, sym, ap, subst, arith, ◌∙◌}
 use Prim.Native.Nat.{zero, suc}
-use Rattle.std.specs.List.{range_with_len, zip, sum_by}
+use Rattle.std.specs.List.{zip}
 use Rattle.std.proofs.Math.Seq.{take-append_seam}
 use Rattle.std.proofs.lemmas.List.Sums.{sum_by-cons}
 use Rattle.std.proofs.lemmas.List.FromFn.{length-map-range_with_len}
@@ -22,7 +22,7 @@ masked_by_mask (b ∷ bs) (x ∷ xs) (y ∷ ys) same =
     rw first (sum_by-cons (λ p. cond p.0 p.1 0) (b, y) (zip bs xs) ∙ ap (λ n. cond b y 0 + n) (masked_by_mask bs xs ys others) ∙ sym (sum_by-cons (λ p. cond p.0 p.1 0) (b, y) (zip bs ys)))
 
 -- a body set behind a mask
-set_behind : (n : ℕ) (xs : List ℕ) (w : ℕ) → length xs ≡ n + 1 → set xs n w ≡ take n xs ++ w ∷ []
+pub set_behind : {X : Type 0} (n : ℕ) (xs : List X) (w : X) → length xs ≡ n + 1 → set xs n w ≡ take n xs ++ w ∷ []
 set_behind zero [] w long = absurd (omega (arith, long))
 set_behind zero (x ∷ []) w long = refl
 set_behind zero (x ∷ y ∷ xs) w long = absurd (omega (arith, long))

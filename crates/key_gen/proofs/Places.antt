@@ -1,5 +1,5 @@
 -- Lists that are written in order, and the rows of a switch key.
-use Rattle.std.proofs.Common.{◌≡◌, ℕ, ◌+◌, ◌-◌, ◌*◌, ◌/◌, ◌%◌, ◌^◌, ◌<◌, ◌≤◌, List, [], ◌∷◌, ◌++◌, length, take, set, get_or, map, refl, sym, ap, subst, arith, ◌∙◌}
+use Rattle.std.proofs.Common.{◌≡◌, ℕ, ◌+◌, ◌*◌, ◌/◌, ◌%◌, ◌^◌, ◌<◌, ◌≤◌, List, [], ◌∷◌, ◌++◌, length, take, set, get_or, map, refl, sym, ap, arith, ◌∙◌}
 use Rattle.std.specs.List.{range_with_len}
 use Rattle.std.proofs.lemmas.List.{take_more_set, length-set}
 use Rattle.std.proofs.lemmas.List.FromFn.{map-range_with_len_more}
@@ -7,7 +7,6 @@ use Rattle.std.proofs.Math.Nat.{mul-le-mul}
 use Rattle.std.proofs.lemmas.Nat.{div-add-mod', row_below_turned}
 use Rattle.std.proofs.Math.Nat.{mod-eq_of_lt}
 use Rattle.word_ring.specs.Rows.{AllOfLength}
-use Rattle.seed_stream.specs.Draws.{stream_at}
 use Rattle.key_switch.specs.Key.{SwitchRows, switch_rows, place_of, row_of, with_row}
 
 -- one element more

@@ -8,23 +8,13 @@ ghost use Rattle.fhe_params.specs.Params.{IsParams, big_dimension};
 ghost use Rattle.key_switch.specs.Key.{message_of};
 ghost use Rattle.key_gen.specs.Seeds.{drawn_switch_key, drawn_switch_row, switch_label};
 
+use crate::messages::weighted_bit;
 use crate::rows::draw_row;
 use fhe_params::{Params, dimension};
 use key_switch::SwitchKey;
 use lwe_core::{Big, Lwe, LweKey, Secret};
 use seed_stream::Stream;
 use std::alloc::{AllocError, Global};
-
-/// What the row of a bit and a place stands for: the bit times `2^(64 - base*t)`.
-#[inline]
-fn message(bit: bool, base: u32, t: u32) -> u64
-    requires first { 1 ≤ t }
-    requires some { 1 ≤ base }
-    requires fits { base * t ≤ 63 }
-    ensures { result ≡ bit_word bit * place_weight base t }
-{
-    if bit { 1 << (64 - base * t) } else { 0 }
-}
 
 /// The switch key of a seed, from the big secret key to the small one: its rows are drawn in order, bit by bit and
 /// place by place, each a mask and then an error (Chillotti et al. 2020, key switching keys).
@@ -48,7 +38,7 @@ pub fn make_switch_key(
     for r in 0..dimension(params) * level {
         let i = (r / level) as usize;
         let t = r % level + 1;
-        let message = message(secret.big.bit(i), params.switch.base, t);
+        let message = weighted_bit(secret.big.bit(i), params.switch.base, t);
         draw_row(
             &mut row,
             &secret.small,

@@ -1,4 +1,4 @@
-use Rattle.std.proofs.Common.{◌≡◌, ◌+◌, ◌<◌, length, refl, ap, arith, ◌∙◌}
+use Rattle.std.proofs.Common.{◌+◌, refl, ap, arith, ◌∙◌}
 use Rattle.std.proofs.lemmas.List.{length-set}
 use Rattle.seed_stream.specs.Draws.{draw, stream_at, next_draw, after_draw}
 use Rattle.key_gen.proofs.Places.{written_more}

@@ -1,4 +1,4 @@
-use Rattle.std.proofs.Common.{w64, ◌≡◌, ◌+◌, ◌-◌, List, ℕ, [], ◌∷◌, ◌++◌, length, take, sym, ap, subst, arith, ◌∙◌}
+use Rattle.std.proofs.Common.{w64, ◌≡◌, ◌+◌, ◌-◌, ℕ, [], ◌∷◌, ◌++◌, length, take, sym, ap, subst, arith, ◌∙◌}
 use Rattle.std.proofs.lemmas.Int.{to_z-of_z, fits_signed_from_abs}
 use Rattle.word_ring.specs.Words.{word_sum}
 use Rattle.word_ring.specs.Signed.{word_of}

@@ -1,4 +1,4 @@
-use Rattle.std.proofs.Common.{◌≡◌, ◌+◌, ◌%◌, set, true, sym, ap, ◌∙◌}
+use Rattle.std.proofs.Common.{◌%◌, set, true, ap, ◌∙◌}
 use Rattle.seed_stream.specs.Draws.{stream_at, next_draw, after_draw}
 use Rattle.key_gen.proofs.Bits.{none_drawn, drawn_more}
 use Rattle.key_gen.proofs.secret.draw_key.Goals as goal

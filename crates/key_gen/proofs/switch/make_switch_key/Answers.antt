@@ -1,15 +1,15 @@
-use Rattle.std.proofs.Common.{◌≡◌, ℕ, ◌+◌, ◌*◌, ◌/◌, ◌%◌, ◌^◌, ◌<◌, ◌≤◌, List, length, sym, ap, subst, arith, ◌∙◌}
+use Rattle.std.proofs.Common.{◌≡◌, ℕ, ◌+◌, ◌*◌, ◌/◌, ◌%◌, ◌^◌, length, sym, ap, arith, ◌∙◌}
 use Rattle.seed_stream.specs.Draws.{KeyStream, stream_key, stream_at}
-use Rattle.key_switch.specs.Key.{SwitchRows, message_of, with_row}
+use Rattle.key_switch.specs.Key.{SwitchRows, message_of}
 use Rattle.key_gen.specs.Seeds.{drawn_row, drawn_switch_row, switch_label}
 use Rattle.key_gen.proofs.Fitting.{row_long}
-use Rattle.key_gen.proofs.Places.{AreWritten, row_written, place_small}
+use Rattle.key_gen.proofs.Places.{row_written, place_small}
 use Rattle.key_gen.proofs.switch.make_switch_key.Goals as goal
 
 pub swap_row-requires-clause-fits : goal.swap_row-requires-clause-fits
 swap_row-requires-clause-fits c =
     let small = c.args.secret.now.small in
-    ap length c.draw_row.ensures.words ∙ row_long c.loop-r.stream.key c.loop-r.stream.place small c.message-message.result c.args.params.now.lwe.error
+    ap length c.draw_row.ensures.words ∙ row_long c.loop-r.stream.key c.loop-r.stream.place small c.weighted_bit-message.result c.args.params.now.lwe.error
     ∙ ap (λ (k : SwitchRows). k.small_dim + 1) (sym c.loop-r.invariant.0.shape)
 
 pub loop-r-preserved : goal.loop-r-preserved
@@ -23,10 +23,10 @@ loop-r-preserved c =
     let n = length small in
     let place : (r * (n + 1)) % 2 ^ 67 ≡ r * (n + 1) = place_small r n (omega (arith)) (omega (arith, c.requires.dimensions.small_length, c.requires.params.lwe.n_high)) in
     let at : c.loop-r.stream.place ≡ r * (n + 1) = ap (λ (s : KeyStream). s.place) c.loop-r.invariant.1 ∙ place in
-    let message : c.message-message.result ≡ message_of digits.base big (r / digits.level) (r % digits.level + 1) = cc in
+    let message : c.weighted_bit-message.result ≡ message_of digits.base big (r / digits.level) (r % digits.level + 1) = cc in
     let words : c.draw_row.new.c ≡ drawn_switch_row key digits.base digits.level error big small r =
-    c.draw_row.ensures.words ∙ ap (λ (s : KeyStream). drawn_row s.key c.loop-r.stream.place small c.message-message.result error) c.loop-r.invariant.1
-    ∙ ap (λ (p : ℕ). drawn_row key p small c.message-message.result error) at ∙ ap (λ (m : ℕ). drawn_row key (r * (n + 1)) small m error) message in
+    c.draw_row.ensures.words ∙ ap (λ (s : KeyStream). drawn_row s.key c.loop-r.stream.place small c.weighted_bit-message.result error) c.loop-r.invariant.1
+    ∙ ap (λ (p : ℕ). drawn_row key p small c.weighted_bit-message.result error) at ∙ ap (λ (m : ℕ). drawn_row key (r * (n + 1)) small m error) message in
     let rows : length big * digits.level ≡ c.dimension.result * digits.level = ap (λ (d : ℕ). d * digits.level) (c.requires.dimensions.big_length ∙ sym c.dimension.ensures.number) in (
       rw c.swap_row.ensures.key (row_written (drawn_switch_row key digits.base digits.level error big small) (length big) n digits.base digits.level r c.loop-r.key c.loop-r.row c.draw_row.new.c c.swap_row.new.row
           c.loop-r.invariant.0 c.known.ensures.long (omega (arith, rows)) words c.swap_row.ensures.row),
