@@ -9,7 +9,7 @@ use Rattle.circuit_file.specs.Limits.{most_dimension, most_width}
 use Rattle.circuit_file.specs.Ranges.{is_input_range}
 use Rattle.cipher_files.specs.declared.fault.FileFault.{FileFault}
 use Rattle.cipher_files.specs.declared.fault.FileFault.TheVariants.{Later}
-use Rattle.cipher_files.specs.Limits.{most_ciphertexts, head_size, range_size, ciphertext_size, seal_size, file_size}
+use Rattle.cipher_files.specs.Limits.{most_ciphertexts, digest_place, digest_size, dim_place, width_place, number_place, head_size, range_size, ciphertext_size, seal_size, file_size}
 use Rattle.cipher_files.specs.CiphertextFile.{CiphertextFile, magic}
 
 -- what is read, or the first fault: one for all checks so far
@@ -38,10 +38,10 @@ number_within least most number = do
 unfoldable pub counts_of : List ℕ → Read (ℕ × ℕ × ℕ)
 counts_of bytes = do
   _ ← check (nat_le (head_size + seal_size) (length bytes))
-  _ ← check (bytes_eq (take 8 bytes) magic)
-  dim ← number_within 1 most_dimension (word_in 40 bytes)
-  width ← number_within 1 most_width (word_in 48 bytes)
-  number ← number_within 0 most_ciphertexts (word_in 56 bytes)
+  _ ← check (bytes_eq (take digest_place bytes) magic)
+  dim ← number_within 1 most_dimension (word_in dim_place bytes)
+  width ← number_within 1 most_width (word_in width_place bytes)
+  number ← number_within 0 most_ciphertexts (word_in number_place bytes)
   _ ← check (length bytes == file_size dim number)
   Ok (dim, width, number)
 
@@ -80,4 +80,5 @@ ciphertext_file_of bytes = do
   _ ← check (is_sealed bytes)
   ranges ← ranges_of (first_chunks range_size number (drop head_size bytes))
   let ciphertexts = ciphertexts_of dim number (drop (head_size + range_size * number) bytes)
-  Ok (record { digest = take 32 (drop 8 bytes); dim = dim; width = width; ranges = ranges; ciphertexts = ciphertexts })
+  let digest = take digest_size (drop digest_place bytes)
+  Ok (record { digest = digest; dim = dim; width = width; ranges = ranges; ciphertexts = ciphertexts })

@@ -9,6 +9,26 @@ file_limit = 2 ^ 29
 abbrev pub most_ciphertexts : ℕ
 most_ciphertexts = 64
 
+-- where the digest of the parameters begins, right behind the magic
+abbrev pub digest_place : ℕ
+digest_place = 8
+
+-- the bytes of a digest
+abbrev pub digest_size : ℕ
+digest_size = 32
+
+-- where the dimension begins, right behind the digest
+abbrev pub dim_place : ℕ
+dim_place = 40
+
+-- where the width begins
+abbrev pub width_place : ℕ
+width_place = 48
+
+-- where the number of ciphertexts begins
+abbrev pub number_place : ℕ
+number_place = 56
+
 -- the bytes before the ranges: the magic, the digest and three words
 abbrev pub head_size : ℕ
 head_size = 64

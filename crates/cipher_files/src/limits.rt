@@ -10,6 +10,18 @@ pub const FILE_LIMIT: u64 = 1 << 29;
 /// The most ciphertexts of a file.
 pub const MOST_CIPHERTEXTS: u64 = 64;
 
+/// Where the digest of the parameters begins, right behind the magic.
+pub const DIGEST_PLACE: usize = 8;
+
+/// Where the dimension begins, right behind the digest.
+pub const DIM_PLACE: usize = 40;
+
+/// Where the width begins.
+pub const WIDTH_PLACE: usize = 48;
+
+/// Where the number of ciphertexts begins.
+pub const NUMBER_PLACE: usize = 56;
+
 /// The bytes before the ranges: the magic, the digest and three words.
 pub const HEAD_SIZE: usize = 64;
 

@@ -3,7 +3,7 @@
 ghost use Rattle.std.specs.Prelude.{◌≡◌, ◌+◌, ◌*◌, ◌/◌, ◌<◌, ◌≤◌, ◌^◌, length, take, drop, IsTrue, IfOk, OnOk};
 ghost use Rattle.std.specs.Simd.{first_chunks};
 ghost use Rattle.circuit_file.specs.Limits.{most_dimension};
-ghost use Rattle.cipher_files.specs.Limits.{most_ciphertexts, range_size, ciphertext_size, seal_size, file_size};
+ghost use Rattle.cipher_files.specs.Limits.{most_ciphertexts, digest_place, digest_size, dim_place, range_size, ciphertext_size, seal_size, file_size};
 ghost use Rattle.cipher_files.specs.CiphertextFile.{IsCiphertextFile, file_of};
 ghost use Rattle.refusals.specs.Reading.{Gives};
 ghost use Rattle.cipher_files.specs.CiphertextReading.{check, word_in, number_within, counts_of, is_sealed, range_of, ranges_of, words_of, ciphertexts_of, ciphertext_file_of};
@@ -13,7 +13,8 @@ use crate::fault::{FileFault, FileRefusal};
 use crate::head::CipherHead;
 use crate::laws::laws;
 use crate::limits::{
-    HEAD_SIZE, MOST_CIPHERTEXTS, RANGE_SIZE, SEAL_SIZE, ciphertext_size, file_size,
+    DIGEST_PLACE, DIM_PLACE, HEAD_SIZE, MOST_CIPHERTEXTS, NUMBER_PLACE, RANGE_SIZE, SEAL_SIZE,
+    WIDTH_PLACE, ciphertext_size, file_size,
 };
 use circuit_file::{MOST_DIMENSION, MOST_WIDTH, is_input_range};
 use lists::List;
@@ -68,10 +69,10 @@ fn counts_of(bytes: &[u8]) -> Result<Counts, FileRefusal>
     ensures len { IfOk result (λ counts. length bytes.now ≡ file_size counts.dim counts.number) }
 {
     check(bytes.len() >= HEAD_SIZE + SEAL_SIZE)?;
-    check(&bytes[..8] == MAGIC.as_slice())?;
-    let dim = number_within(1, MOST_DIMENSION, word_in(bytes, 40))?;
-    let width = number_within(1, MOST_WIDTH, word_in(bytes, 48))?;
-    let number = number_within(0, MOST_CIPHERTEXTS, word_in(bytes, 56))?;
+    check(&bytes[..DIGEST_PLACE] == MAGIC.as_slice())?;
+    let dim = number_within(1, MOST_DIMENSION, word_in(bytes, DIM_PLACE))?;
+    let width = number_within(1, MOST_WIDTH, word_in(bytes, WIDTH_PLACE))?;
+    let number = number_within(0, MOST_CIPHERTEXTS, word_in(bytes, NUMBER_PLACE))?;
     check(bytes.len() == file_size(dim, number as usize))?;
     Ok(Counts { dim, width, number })
 }
@@ -97,11 +98,11 @@ fn range_of(bytes: &[u8]) -> Result<(i64, i64), FileRefusal>
 }
 
 fn digest_of(bytes: &[u8]) -> [u8; 32]
-    requires { 40 ≤ length bytes.now }
-    ensures { result ≡ take 32 (drop 8 bytes.now) }
+    requires { dim_place ≤ length bytes.now }
+    ensures { result ≡ take digest_size (drop digest_place bytes.now) }
 {
     let mut digest = [0; 32];
-    digest.copy_from_slice(&bytes[8..40]);
+    digest.copy_from_slice(&bytes[DIGEST_PLACE..DIM_PLACE]);
     digest
 }
 

@@ -23,6 +23,7 @@ CameBy defined answer before after =
     ⊎ (((answer ≡ status.Read) × Rises before.store.read_faults after.store.read_faults)
     ⊎ (((answer ≡ status.Write) × WriteFailed before after) ⊎ (answer ≡ status.Memory)))
 
+-- why each answer of a command came, and of `run` which answers say what
 pub record AnswerLaws : Type 0 where
   -- for every command there are files, those that the store tells, where it does, over which the answer came so
   pub cause : (outcome_of : Files → Outcome) (answer : Status) (before after : Outside)

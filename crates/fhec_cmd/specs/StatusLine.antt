@@ -23,16 +23,19 @@ code_of status.Read = 12
 code_of status.Write = 13
 code_of status.Memory = 14
 
--- the printed word of a kind
+-- the printed word of a kind of fault of a circuit
 abbrev pub circuit_kind_word : CircuitKind → List ℕ
 circuit_kind_word circuit_kind.Later = codes "later"
 
+-- the printed word of a kind of file
 abbrev pub file_kind_word : FileKind → List ℕ
 file_kind_word file_kind.Cipher = codes "cipher"
 
+-- the printed word of a fault of a file
 abbrev pub file_fault_word : FileFault → List ℕ
 file_fault_word file_fault.Later = codes "later"
 
+-- the printed word of what is limited
 abbrev pub limit_word : LimitName → List ℕ
 limit_word limit_name.Bytes = codes "bytes"
 
