@@ -1,0 +1,6 @@
+use super::*;
+
+#[test]
+fn laws_are_free() {
+    laws::laws();
+}
