@@ -68,12 +68,12 @@ small_given given added small is =
     let same : given ≡ added = is ∙ to_z-of_z w64 added (fits_signed_from_abs w64 added (omega (arith, small))) in
     ap (λ z. to_z w128 (of_z w128 z)) same ∙ to_z-of_z w128 added (fits_signed_from_abs w128 added (omega (arith, small)))
 
+pub near_abs : (terms : ℕ) (z : ℤ) → terms ≤ 4096 → IsNear terms z → unsigned_abs z < 2 ^ 100
+near_abs terms (pos m) few near = omega (arith, ints, few, near.high)
+near_abs terms (negsuc m) few near = omega (arith, ints, few, near.low)
+
 near_fits : (terms : ℕ) (z : ℤ) → terms ≤ 4096 → IsNear terms z → FitsSigned w128 z
-near_fits terms z few near = fits_signed_from_abs w128 z (near_abs z near)
-  where
-    near_abs : (z : ℤ) → IsNear terms z → unsigned_abs z < 2 ^ 127
-    near_abs (pos m) near = omega (arith, ints, few, near.high)
-    near_abs (negsuc m) near = omega (arith, ints, few, near.low)
+near_fits terms z few near = fits_signed_from_abs w128 z (omega (arith, near_abs terms z few near))
 
 -- the sum with a term more fits
 pub sum_fits : (terms : ℕ) (sum given added : ℤ) → terms + 1 ≤ 4096 → IsNear terms sum → unsigned_abs added ≤ most_weight * most_end

@@ -25,3 +25,8 @@ pub record AreSmall (terms : List (ℕ × ℤ)) (ranges : List (ℤ × ℤ)) : T
   pub few : length terms ≤ most_terms
   pub each_term : All (IsSmallTerm (length ranges)) terms
   pub each_range : All IsSmallRange ranges
+
+-- both ends of the form's range are below 2^100 in size
+pub record IsWide (range : ℤ × ℤ) : Type 0 where
+  pub lo : unsigned_abs range.0 < 2 ^ 100
+  pub hi : unsigned_abs range.1 < 2 ^ 100

@@ -5,7 +5,7 @@
 ghost use Rattle.std.specs.Prelude.{◌≡◌, ◌*◌, ◌≤◌, ◌↔◌, length, All, IsTrue, pos, ◌*ℤ◌, int_lt, unsigned_abs, if◌then◌else◌};
 ghost use Rattle.forms.specs.Forms.{least_of_term, greatest_of_term, form_range};
 ghost use Rattle.forms.specs.Limits.{most_weight};
-ghost use Rattle.range_pass.specs.Bounds.{most_end, IsSmallRange, IsSmallTerm, AreSmall};
+ghost use Rattle.range_pass.specs.Bounds.{most_end, IsSmallRange, IsSmallTerm, AreSmall, IsWide};
 
 use forms::limits::MOST_WEIGHT;
 
@@ -79,7 +79,9 @@ fn range_of_term(term: (u32, i64), ranges: &[(i64, i64)]) -> (i64, i64)
 /// number of a leaf is the place of its range.
 pub fn range_of(constant: i64, terms: &[(u32, i64)], ranges: &[(i64, i64)]) -> (i128, i128)
     requires { AreSmall terms.now ranges.now }
-    ensures { result ≡ form_range constant terms.now ranges.now }
+    ensures range { result ≡ form_range constant terms.now ranges.now }
+    // So the ends may be subtracted from each other.
+    ensures wide { IsWide result }
 {
     let mut least = i128::from(constant);
     let mut greatest = i128::from(constant);

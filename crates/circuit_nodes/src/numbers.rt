@@ -1,0 +1,66 @@
+//! Tests of numbers, ranges and terms.
+
+ghost use Rattle.std.specs.Prelude.{◌≡◌};
+ghost use Rattle.std.specs.List.{list_all};
+ghost use Rattle.forms.specs.Ranges.{range_of_entries};
+ghost use Rattle.circuit_nodes.specs.Tests.{is_number, is_number_range, is_same_range, are_rising};
+
+use forms::limits::{LEAST_NUMBER, MOST_NUMBER};
+
+/// Whether an input, an entry or an out may have the number.
+pub(crate) fn is_number(number: i64) -> bool
+    ensures { result ≡ is_number number }
+{
+    LEAST_NUMBER <= number && number <= MOST_NUMBER
+}
+
+/// Whether there is at least one number in a range, and each of them may stand.
+pub(crate) fn is_number_range(lo: i64, hi: i64) -> bool
+    ensures { result ≡ is_number_range lo hi }
+{
+    LEAST_NUMBER <= lo && lo <= hi && hi <= MOST_NUMBER
+}
+
+/// Whether all entries may stand.
+pub(crate) fn are_numbers(entries: &[i64]) -> bool
+    ensures { result ≡ list_all is_number entries.now }
+{
+    entries.iter().all(|entry| is_number(*entry))
+}
+
+/// Whether a range is the one from `lo` to `hi`.
+pub(crate) fn is_same_range(lo: i64, hi: i64, range: (i128, i128)) -> bool
+    ensures { result ≡ is_same_range (lo, hi) range }
+{
+    i128::from(lo) == range.0 && i128::from(hi) == range.1
+}
+
+/// Whether terms rise in their operands.
+pub(crate) fn are_rising(terms: &[(u32, i64)]) -> bool
+    ensures { result ≡ are_rising 0 terms.now }
+{
+    let mut low = 0;
+    for term in terms {
+        if u64::from(term.0) < low {
+            return false;
+        }
+        low = u64::from(term.0) + 1;
+    }
+    true
+}
+
+/// From the least to the greatest of these entries.
+pub(crate) fn range_of_entries(entries: &[i64]) -> (i64, i64)
+    ensures { result ≡ range_of_entries entries.now }
+{
+    let Some((first, others)) = entries.split_first() else {
+        return (0, 0);
+    };
+    let mut least = *first;
+    let mut greatest = *first;
+    for entry in others {
+        least = least.min(*entry);
+        greatest = greatest.max(*entry);
+    }
+    (least, greatest)
+}
