@@ -1,0 +1,11 @@
+use Rattle.std.proofs.Common.{length}
+use Rattle.fhe_text.specs.Rest.{pieces}
+use Rattle.fhe_text.specs.Descent.{next_number_at, numbers_at}
+use Rattle.fhe_text.proofs.Lists.{IsLeft}
+use Rattle.fhe_text.proofs.constants.numbers_at.Given as goal
+
+abbrev pub invariant-loop-after : goal.invariant-loop-after
+invariant-loop-after l = IsLeft next_number_at l.numbers.items l.after l.fn.rest (numbers_at (pieces l.fn.rest))
+
+abbrev pub decreases-loop-after : goal.decreases-loop-after
+decreases-loop-after l = length l.after.tokens.now

@@ -1,0 +1,11 @@
+pub mod Patterns
+pub mod Numbers
+pub mod Roles
+pub mod Grammar
+pub mod Conditions
+pub mod Program
+pub mod Faults
+pub mod Reading
+pub mod Rest
+pub mod Descent
+pub mod Laws
