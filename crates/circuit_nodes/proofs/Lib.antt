@@ -6,3 +6,5 @@ pub mod Kept
 pub mod Unused
 pub mod Rules
 pub mod LineRules
+pub mod Messages
+pub mod Widths

@@ -21,7 +21,7 @@ use Rattle.circuit_nodes.proofs.Pushing.{holds}
 
 -- ---- from a test to its rule
 
-from_holds : (test : Bool) → T test → test ≡ true
+pub from_holds : (test : Bool) → T test → test ≡ true
 from_holds true t = refl
 from_holds false t = absurd t
 

@@ -1,7 +1,9 @@
 -- What holds of the lines of a circuit's nodes and of their rules.
-use Rattle.std.specs.Prelude.{◌≡◌, ℕ, ◌+◌, ◌≤◌, List, [], ◌∷◌, length, map, All, Option, None, IsTrue}
+use Rattle.std.specs.Prelude.{◌≡◌, ◌↔◌, ℕ, ℤ, ◌+◌, ◌≤◌, List, [], ◌∷◌, length, map, All, Option, None, IsTrue}
 use Rattle.circuit_lines.specs.declared.line.Line.{Line}
+use Rattle.forms.specs.Ranges.{IsLeastWidth}
 use Rattle.tfhe_level.specs.Rules.{KeepRules}
+use Rattle.circuit_nodes.specs.Tests.{is_least_width}
 use Rattle.circuit_nodes.specs.Lines.{op_of, is_numbered, are_natural, broken_line}
 use Rattle.circuit_nodes.specs.Walk.{start, walk_from, broken_place, most_operations}
 
@@ -24,3 +26,8 @@ pub record LineLaws : Type 0 where
   -- lines with their numbers, whose operands are no numbers below 0 and whose operations keep the rules, break none
   pub kept : (lines : List Line) → AreNumbered 0 lines → All (λ line. IsTrue (are_natural line)) lines
       → KeepRules (map op_of lines) [] (map op_of lines) → broken_line lines ≡ None
+
+-- the test of the least width is that of its rule
+pub record WidthLaws : Type 0 where
+  -- it holds where the width is the least
+  pub test : (ranges : List (ℤ × ℤ)) (width : ℕ) → IsTrue (is_least_width ranges width) ↔ IsLeastWidth ranges width

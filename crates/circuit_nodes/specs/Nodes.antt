@@ -1,5 +1,5 @@
 -- What is kept of the operations so far: their ranges, and how many there are of each kind.
-use Rattle.std.specs.Prelude.{◌≡◌, ℕ, ◌+◌, ◌≤◌, List, length, All, count_by, ℤ, pos, if◌then◌else◌}
+use Rattle.std.specs.Prelude.{◌≡◌, ℕ, ◌+◌, ◌≤◌, Bool, not, ◌||◌, List, length, All, count_by, ℤ, pos, if◌then◌else◌}
 use Rattle.ir_core.specs.Placed.{IsPlaced}
 use Rattle.forms.specs.Forms.{range_at}
 use Rattle.forms.specs.Limits.{most_inputs, most_outs}
@@ -11,7 +11,8 @@ use Rattle.tfhe_level.specs.declared.shape.Shape.{Shape}
 use Rattle.tfhe_level.specs.Limits.{most_lins, most_switches, most_boots}
 use Rattle.tfhe_level.specs.Operations.{is_input, is_lin, is_switch, is_boot, is_out, is_leaf}
 use Rattle.tfhe_level.specs.Nodes.{nodes_of, node_ranges}
-use Rattle.tfhe_level.specs.Rules.{Stands}
+use Rattle.tfhe_level.specs.Rules.{Stands, range_on, is_message}
+use Rattle.circuit_nodes.specs.Tests.{stands, holds_range}
 use Rattle.circuit_nodes.specs.declared.kinds.Kinds.{Kinds}
 
 -- how many operations there are of each kind
@@ -62,3 +63,7 @@ with_kind kinds op = record {
   boots = kinds.boots + (if is_boot op then 1 else 0);
   outs = kinds.outs + (if is_out op then 1 else 0);
 }
+
+-- a width holds the range of the operation at a place, where it is a key switch or an out
+abbrev pub is_held_at : List TfheOp → ℕ → ℕ → Bool
+is_held_at operations width place = not (stands is_message operations place) || holds_range width (range_on operations place)

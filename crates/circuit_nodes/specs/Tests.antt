@@ -1,8 +1,8 @@
 -- The rules of the operations of a circuit as tests, each given the operations before it.
-use Rattle.std.specs.Prelude.{ℕ, ◌+◌, ◌==◌, nat_lt, nat_le, not, ◌&&◌, Bool, true, false, List, [], ◌∷◌, length, count_by, Option, Some, None, slice_get, ℤ, pos, ◌+ℤ◌, int_le, unsigned_abs}
+use Rattle.std.specs.Prelude.{ℕ, ◌+◌, ◌-◌, ◌^◌, ◌==◌, nat_lt, nat_le, not, ◌&&◌, ◌||◌, Bool, true, false, List, [], ◌∷◌, length, count_by, Option, Some, None, slice_get, ℤ, pos, ◌+ℤ◌, int_le, int_lt, unsigned_abs}
 use Rattle.std.specs.List.{list_all}
 use Rattle.std.specs.Ordering.{int_eq}
-use Rattle.forms.specs.Limits.{most_inputs, most_outs, most_weight, most_constant, least_number, most_number}
+use Rattle.forms.specs.Limits.{most_inputs, most_outs, most_weight, most_constant, least_number, most_number, most_width}
 use Rattle.forms.specs.Forms.{span_of}
 use Rattle.tfhe_level.specs.declared.level.TfheOp.{TfheOp}
 use Rattle.tfhe_level.specs.declared.level.TfheOp.TheVariants.{Input, Lin, Switch, Boot, Out}
@@ -78,3 +78,15 @@ keeps_alone earlier (Lin constant terms) = keeps_lin earlier constant terms
 keeps_alone earlier (Switch source) = keeps_switch earlier source
 keeps_alone earlier (Boot source entries) = keeps_boot earlier source entries
 keeps_alone earlier (Out source lo hi) = keeps_out earlier source lo hi
+
+-- ---- the width
+
+-- a width holds a range: the greatest number less the least one is below 2^width
+abbrev pub holds_range : ℕ → ℤ × ℤ → Bool
+holds_range width range = int_lt (span_of range) (pos (2 ^ width))
+
+-- the least width from 1, and at most 16, that holds these ranges
+abbrev pub is_least_width : List (ℤ × ℤ) → ℕ → Bool
+is_least_width ranges width =
+    (nat_le 1 width && nat_le width most_width)
+    && (list_all (holds_range width) ranges && (width == 1 || not (list_all (holds_range (width - 1)) ranges)))

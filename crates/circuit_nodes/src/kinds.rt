@@ -2,6 +2,7 @@
 
 ghost use Rattle.std.specs.Prelude.{◌≡◌, ◌<◌, ◌+◌, ◌^◌, if◌then◌else◌};
 ghost use Rattle.tfhe_level.specs.Operations.{is_input, is_lin, is_switch, is_boot, is_out, is_leaf, is_big_node};
+ghost use Rattle.tfhe_level.specs.Rules.{is_message};
 ghost use Rattle.circuit_nodes.specs.Nodes.{AreFew, with_kind};
 
 use tfhe_level::TfheOp;
@@ -79,4 +80,11 @@ pub(crate) fn is_switch(op: &TfheOp) -> bool
     ensures { result ≡ is_switch op.now }
 {
     matches!(op, TfheOp::Switch { .. })
+}
+
+/// Whether the width must hold its range: a key switch or an out.
+pub(crate) fn is_message(op: &TfheOp) -> bool
+    ensures { result ≡ is_message op.now }
+{
+    matches!(op, TfheOp::Switch { .. } | TfheOp::Out { .. })
 }

@@ -2,21 +2,24 @@
 
 ghost use Rattle.std.specs.Prelude.{◌≡◌, ◌<◌, ◌≤◌, Ok, List, [], ◌∷◌, ◌++◌, length, IsTrue, ◌+ℤ◌, ◌-ℤ◌, pos};
 ghost use Rattle.std.specs.List.{list_all};
+ghost use Rattle.forms.specs.Limits.{most_width};
 ghost use Rattle.refusals.specs.Reading.{Gives};
 ghost use Rattle.range_pass.specs.Bounds.{IsWide};
 ghost use Rattle.ir_core.specs.Placed.{IsPlaced};
 ghost use Rattle.tfhe_level.specs.declared.level.TfheOp.{TfheOp};
 ghost use Rattle.tfhe_level.specs.Operations.{is_input, is_switch, is_leaf, is_big_node};
 ghost use Rattle.tfhe_level.specs.Nodes.{nodes_of, node_ranges, range_of};
-ghost use Rattle.tfhe_level.specs.Rules.{range_on};
-ghost use Rattle.circuit_nodes.specs.Tests.{stands, is_term, keeps_input, keeps_lin, keeps_switch, keeps_boot, keeps_out, keeps_alone};
-ghost use Rattle.circuit_nodes.specs.Nodes.{AreKept, leaf_range};
+ghost use Rattle.tfhe_level.specs.Rules.{range_on, is_message, message_ranges};
+ghost use Rattle.circuit_nodes.specs.Tests.{stands, is_term, keeps_input, keeps_lin, keeps_switch, keeps_boot, keeps_out, keeps_alone, holds_range, is_least_width};
+ghost use Rattle.circuit_nodes.specs.Nodes.{AreKept, leaf_range, is_held_at};
 ghost use Rattle.circuit_nodes.specs.Walk.{most_operations};
 
-use crate::kinds::{Kinds, is_big_node, is_leaf, is_switch};
-use crate::numbers::{are_numbers, are_rising, is_number_range, is_same_range, range_of_entries};
+use crate::kinds::{Kinds, is_big_node, is_leaf, is_message, is_switch};
+use crate::numbers::{
+    are_numbers, are_rising, holds_range, is_number_range, is_same_range, range_of_entries,
+};
 use circuit_lines::LineRefusal;
-use forms::limits::{MOST_CONSTANT, MOST_INPUTS, MOST_OUTS, MOST_WEIGHT};
+use forms::limits::{MOST_CONSTANT, MOST_INPUTS, MOST_OUTS, MOST_WEIGHT, MOST_WIDTH};
 use refusals::Refusal;
 use std::alloc::Global;
 use std::marker::Model;
@@ -81,6 +84,13 @@ impl Nodes {
         ensures { result ≡ stands is_switch self.now place }
     {
         place < self.count() && is_switch(self.shape.node(place))
+    }
+
+    /// Whether a key switch or an out stands at a place.
+    fn is_message_at(&self, place: u32) -> bool
+        ensures { result ≡ stands is_message self.now place }
+    {
+        place < self.count() && is_message(self.shape.node(place))
     }
 
     /// The range of the operation at a place.
@@ -193,6 +203,37 @@ impl Nodes {
             }),
             Err(_) => Err(Refusal::Memory),
         }
+    }
+
+    /// Whether a width holds the range of the operation at a place, or need not: of key switches and outs alone.
+    fn is_held_at(&self, width: u32, place: u32) -> bool
+        requires { width ≤ most_width }
+        ensures { result ≡ is_held_at self.now width place }
+    {
+        !self.is_message_at(place) || holds_range(width, self.range_at(place))
+    }
+
+    /// Whether a width holds the ranges of all key switches and outs.
+    fn holds_messages(&self, width: u32) -> bool
+        requires { width ≤ most_width }
+        ensures { result ≡ list_all (holds_range width) (message_ranges self.now) }
+    {
+        for place in 0..self.count() {
+            if !self.is_held_at(width, place) {
+                return false;
+            }
+        }
+        true
+    }
+
+    /// Whether a width is the least from 1, and at most 16, that holds the ranges of all key switches and outs.
+    pub fn is_least_width(&self, width: u32) -> bool
+        ensures { result ≡ is_least_width (message_ranges self.now) width }
+    {
+        1 <= width
+            && width <= MOST_WIDTH
+            && self.holds_messages(width)
+            && (width == 1 || !self.holds_messages(width - 1))
     }
 
     /// The circuit of these operations and this width.

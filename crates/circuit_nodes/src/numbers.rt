@@ -1,9 +1,11 @@
 //! Tests of numbers, ranges and terms.
 
-ghost use Rattle.std.specs.Prelude.{◌≡◌};
+ghost use Rattle.std.specs.Prelude.{◌≡◌, ◌≤◌};
 ghost use Rattle.std.specs.List.{list_all};
+ghost use Rattle.forms.specs.Limits.{most_width};
+ghost use Rattle.range_pass.specs.Bounds.{IsWide};
 ghost use Rattle.forms.specs.Ranges.{range_of_entries};
-ghost use Rattle.circuit_nodes.specs.Tests.{is_number, is_number_range, is_same_range, are_rising};
+ghost use Rattle.circuit_nodes.specs.Tests.{is_number, is_number_range, is_same_range, are_rising, holds_range};
 
 use forms::limits::{LEAST_NUMBER, MOST_NUMBER};
 
@@ -63,4 +65,13 @@ pub(crate) fn range_of_entries(entries: &[i64]) -> (i64, i64)
         greatest = greatest.max(*entry);
     }
     (least, greatest)
+}
+
+/// Whether a width holds a range.
+pub(crate) fn holds_range(width: u32, range: (i128, i128)) -> bool
+    requires width { width ≤ most_width }
+    requires range { IsWide range }
+    ensures { result ≡ holds_range width range }
+{
+    range.1 - range.0 < 1 << width
 }

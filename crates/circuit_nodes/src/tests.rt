@@ -127,7 +127,11 @@ fn the_operations_of_a_look_up(rt: HostRuntime) -> Result<(), Fail> {
         "%0 = input 0 3\n%1 = lin 0 1 %0\n%2 = switch %1\n%3 = boot %2 1 3 0 2\nout %3 0 3\n";
     match walk_of(rt.alloc(), text.as_bytes()) {
         Ok(walk) => {
-            let shape = walk.into_nodes().into_shape(2);
+            let nodes = walk.into_nodes();
+            for (width, least) in [(0, false), (1, false), (2, true), (3, false), (17, false)] {
+                assert_eq!(rt; nodes.is_least_width(width), least);
+            }
+            let shape = nodes.into_shape(2);
             assert_eq!(rt; shape.width, 2);
             assert_eq!(rt; shape.node_count(), 5);
             let out = format!(in rt.alloc(); "{:?}", shape.node(4))?;
