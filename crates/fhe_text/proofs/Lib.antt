@@ -11,6 +11,7 @@ pub mod Segments
 pub mod Worked
 pub mod NumberLemmas
 pub mod Lists
+pub mod PrintLemmas
 pub mod Places
 pub mod NameLemmas
 pub mod Listing

@@ -6,6 +6,7 @@ pub mod Conditions
 pub mod Program
 pub mod Faults
 pub mod Reading
+pub mod Printing
 pub mod Rest
 pub mod Descent
 pub mod Laws

@@ -1,4 +1,4 @@
-//! The text of a program: reading it to its source, with the first fault of a text that is none.
+//! The text of a program: reading it to its source, with the first fault of a text that is none, and printing it.
 #![tactic(auto)]
 
 mod args;
@@ -9,6 +9,7 @@ mod names;
 mod numbers;
 mod op_names;
 mod operations;
+mod printing;
 mod reader;
 mod rest;
 mod source;
@@ -17,6 +18,7 @@ mod types;
 
 pub use fault::{TextFault, TextKind, TextRefusal};
 pub use lists::List;
+pub use printing::print_program;
 pub use reader::read_program;
 pub use source::{Arg, Entries, OpName, Source, Statement, WrittenType};
 

@@ -263,6 +263,44 @@ const WEIGHTED_SUM: &str = r#"module {
 }
 "#;
 
+/// It in the layout that is printed.
+const PRINTED_SUM: &str =
+    r#"func.func @main(%arg0: !FHE.eint<4> {fhec.range = [0, 3]}, %arg1: !FHE.eint<4> {fhec.range = [0, 3]}, %arg2: !FHE.eint<4> {fhec.range = [0, 2]}) -> !FHE.eint<4> {
+  %0 = arith.constant 2 : i5
+  %1 = arith.constant 3 : i5
+  %2 = "FHE.mul_eint_int"(%arg1, %0) : (!FHE.eint<4>, i5) -> !FHE.eint<4>
+  %3 = "FHE.mul_eint_int"(%arg2, %1) : (!FHE.eint<4>, i5) -> !FHE.eint<4>
+  %4 = "FHE.add_eint"(%arg0, %2) : (!FHE.eint<4>, !FHE.eint<4>) -> !FHE.eint<4>
+  %5 = "FHE.add_eint"(%4, %3) : (!FHE.eint<4>, !FHE.eint<4>) -> !FHE.eint<4>
+  %6 = arith.constant dense<[0, 1, 4, 9, 0, 9, 4, 1, 0, 1, 4, 9, 0, 9, 4, 1]> : tensor<16xi64>
+  %7 = "FHE.apply_lookup_table"(%5, %6) : (!FHE.eint<4>, tensor<16xi64>) -> !FHE.eint<4>
+  return %7 : !FHE.eint<4>
+}
+"#;
+
+/// A program whose text is crowded, in that layout.
+const PRINTED_CROWD: &str =
+    r#"func.func @main(%arg0: !FHE.eint<4> {fhec.range = [0, 7]}, %arg1: !FHE.eint<3>) -> !FHE.eint<5> {
+  return %arg1, %arg0 : i1
+}
+"#;
+
+/// Constants and operations in that layout.
+const PRINTED_CONSTANTS: &str = r#"func.func @main() -> (!FHE.eint<1>, !FHE.eint<2>) {
+  %0 = arith.constant -9223372036854775808 : i64
+  %1 = arith.constant 0 : i1
+  %2 = arith.constant dense<[-1, 0]> : tensor<2xi1>
+  %3 = arith.constant dense<-3> : tensor<2147483648xi3>
+  %4 = "FHE.zero"() : () -> !FHE.eint<2>
+  %5 = "FHE.sub_eint_int"(%4, %1) : (i2, i3) -> i4
+  %6 = "FHE.sub_int_eint"() : () -> i3
+  %7 = "FHE.add_eint_int"() : () -> i4
+  %8 = "FHE.sub_eint"() : () -> i1
+  %9 = "FHE.neg_eint"(%5) : () -> i1
+  return %9, %9 : i5, tensor<16xi64>
+}
+"#;
+
 /// The fault of a text, where it has one.
 fn fault_of(
     rt: &(impl AllocGlobal + Abort),
@@ -512,6 +550,22 @@ fn constants_reach_the_ends_of_their_types(rt: HostRuntime) -> Result<(), Fail> 
         source.returned_types.as_slice(),
         [int(5), tensor].as_slice()
     );
+    Ok(())
+}
+
+#[test]
+fn programs_are_printed_in_one_layout_and_read_back(rt: HostRuntime) -> Result<(), Fail> {
+    let layouts = [
+        (WEIGHTED_SUM, PRINTED_SUM),
+        (CROWDED, PRINTED_CROWD),
+        (CONSTANTS, PRINTED_CONSTANTS),
+    ];
+    for (text, layout) in layouts {
+        let once = print_program(rt.alloc(), &source_of(&rt, text.as_bytes())?)?;
+        assert_eq!(rt; once.as_slice(), layout.as_bytes());
+        let again = print_program(rt.alloc(), &source_of(&rt, once.as_slice())?)?;
+        assert_eq!(rt; again.as_slice(), layout.as_bytes());
+    }
     Ok(())
 }
 
