@@ -20,13 +20,14 @@ for shape in 8_8_8_4_20 10_128_12_2_2; do
     level=$(echo "$shape" | cut -d_ -f4)
     rounds=$(echo "$shape" | cut -d_ -f5)
     rows=$((dim * 2 * level))
+    n=$((1 << log_n))
     echo "$crate: lwe_core negacyclic glwe_core blind_rotate" >> "$temp/crates.txt"
     mkdir -p "$temp/crates/$crate/src" "$temp/crates/$crate/proofs/drawn_row" "$temp/crates/$crate/proofs/drawn_key" \
-        "$temp/crates/$crate/proofs/drawn_words" "$temp/crates/$crate/proofs/main"
+        "$temp/crates/$crate/proofs/drawn_words" "$temp/crates/$crate/proofs/drawn_test" "$temp/crates/$crate/proofs/time"
     cat > "$temp/crates/$crate/src/main.rt" <<RATTLE
 #![tactic(auto)]
 
-ghost use Rattle.std.specs.Prelude.{◌≡◌, ◌≤◌, ◌^◌, IfOk, length, replicate};
+ghost use Rattle.std.specs.Prelude.{◌≡◌, ◌^◌, IfOk, length, replicate};
 ghost use Rattle.glwe_core.specs.Glwe.{lengths_of};
 ghost use Rattle.blind_rotate.specs.BootKey.{glwe_shape};
 
@@ -71,35 +72,46 @@ fn drawn_key(alloc: Global) -> Result<BootKey, AllocError>
 }
 
 fn drawn_words(alloc: Global) -> Result<Lwe<Small>, AllocError>
-    ensures { IfOk result (λ c. length c ≡ $dim + 1) }
+    ensures { IfOk result (λ c. length c ≡ $((dim + 1))) }
 {
     let mut c = Lwe::<Small>::new(alloc, $dim)?;
     let mut word = 9;
-    for at in 0..$dim + 1usize {
+    for at in 0..$((dim + 1))usize {
         word = next(word);
         c.set(at, word);
     }
     Ok(c)
 }
 
-fn main(rt: HostRuntime) -> io::Result<()> {
-    let key = drawn_key(rt.alloc())?;
-    let mut room = Room::new(rt.alloc(), 1, $log_n)?;
-    let mut test = Poly::new(rt.alloc(), $log_n)?;
+fn drawn_test(alloc: Global) -> Result<Poly, AllocError>
+    ensures { IfOk result (λ test. length test ≡ $n) }
+{
+    let mut test = Poly::new(alloc, $log_n)?;
     let mut word = 5;
     for place in 0..test.coeffs().len() {
         word = next(word);
         test.set(place, word);
     }
+    Ok(test)
+}
+
+fn time(rt: &HostRuntime) -> io::Result<()> {
+    let key = drawn_key(rt.alloc())?;
+    let test = drawn_test(rt.alloc())?;
     let c = drawn_words(rt.alloc())?;
-    let mut out = Lwe::<Big>::new(rt.alloc(), 1 << $log_n)?;
-    let start = Instant::now(&rt)?;
+    let mut room = Room::new(rt.alloc(), 1, $log_n)?;
+    let mut out = Lwe::<Big>::new(rt.alloc(), $n)?;
+    let start = Instant::now(rt)?;
     for _ in 0..${rounds}u32 {
         bootstrap_into(&mut out, &mut room, &key, &test, &c);
     }
-    let nanoseconds = start.elapsed(&rt)?.as_nanos() / $rounds;
-    let check = out.word(0) ^ out.word(1 << $log_n);
+    let nanoseconds = start.elapsed(rt)?.as_nanos() / $rounds;
+    let check = out.word(0) ^ out.word($n);
     println!(rt; "{nanoseconds} {check}")
+}
+
+fn main(rt: HostRuntime) -> io::Result<()> {
+    time(&rt)
 }
 RATTLE
     cat > "$temp/crates/$crate/proofs/drawn_row/Invariants.antt" <<ANTT
@@ -122,22 +134,26 @@ abbrev pub invariant-loop-place : goal.invariant-loop-place
 invariant-loop-place l = record { shape : l.key.shape ≡ glwe_shape 1 $log_n; level : l.key.level ≡ $level; number : length l.key.ggsws ≡ $dim }
 ANTT
     cat > "$temp/crates/$crate/proofs/drawn_words/Invariants.antt" <<ANTT
-use Rattle.std.proofs.Common.{◌≡◌, ◌+◌, length}
+use Rattle.std.proofs.Common.{◌≡◌, length}
 use Rattle.$crate.proofs.drawn_words.Given as goal
 
 abbrev pub invariant-loop-at : goal.invariant-loop-at
-invariant-loop-at l = length l.c ≡ $dim + 1
+invariant-loop-at l = length l.c ≡ $((dim + 1))
 ANTT
-    cat > "$temp/crates/$crate/proofs/main/Invariants.antt" <<ANTT
-use Rattle.std.proofs.Common.{◌≡◌, ◌+◌, ◌^◌, length}
-use Rattle.blind_rotate.specs.BootKey.{glwe_shape}
-use Rattle.$crate.proofs.main.Given as goal
+    cat > "$temp/crates/$crate/proofs/drawn_test/Invariants.antt" <<ANTT
+use Rattle.std.proofs.Common.{◌≡◌, length}
+use Rattle.$crate.proofs.drawn_test.Given as goal
 
 abbrev pub invariant-loop-place : goal.invariant-loop-place
-invariant-loop-place l = length l.test ≡ 2 ^ $log_n
+invariant-loop-place l = length l.test ≡ $n
+ANTT
+    cat > "$temp/crates/$crate/proofs/time/Invariants.antt" <<ANTT
+use Rattle.std.proofs.Common.{◌≡◌, length}
+use Rattle.blind_rotate.specs.BootKey.{glwe_shape}
+use Rattle.$crate.proofs.time.Given as goal
 
 abbrev pub invariant-loop : goal.invariant-loop
-invariant-loop l = record { room : l.room ≡ glwe_shape 1 $log_n; out : length l.out ≡ 2 ^ $log_n + 1 }
+invariant-loop l = record { room : l.room ≡ glwe_shape 1 $log_n; out : length l.out ≡ $((n + 1)) }
 ANTT
     (cd "$temp/crates/$crate" && rt run > "$temp/first.txt" 2>&1) || { cat "$temp/first.txt"; exit 1; }
     clang -O3 -march=x86-64-v2 -DLOG_N="$log_n" -DDIM="$dim" -DBASE="$base" -DLEVEL="$level" -DROUNDS="$rounds" \
