@@ -9,7 +9,7 @@ use Rattle.ggsw_core.specs.Noise as products
 use Rattle.blind_rotate.specs.Noise as bootstraps
 use Rattle.noise_model.specs.Bounds.{switch_noise, rows_noise, digits_noise, boot_noise, noise_bound}
 use Rattle.noise_model.specs.Constraints.{IsMet, boot_constraint, out_constraint}
-use Rattle.noise_laws.specs.Numbers.{key_numbers_of}
+use Rattle.key_gen.specs.Seeds.{key_numbers}
 
 -- what parameters say of the noise of an operation is what the operation adds
 pub record NoiseLaws : Type 0 where
@@ -22,7 +22,7 @@ pub record NoiseLaws : Type 0 where
   -- and by rounding to digits
   pub digits_add : (p : Params) → digits_noise p ≡ products.digits_noise p.glwe.ones p.boot.base p.boot.level
   -- a bootstrap
-  pub boot_adds : (p : Params) → boot_noise p ≡ bootstraps.boot_noise (key_numbers_of p)
+  pub boot_adds : (p : Params) → boot_noise p ≡ bootstraps.boot_noise (key_numbers p)
 
 -- a constraint that is met
 pub record ConstraintLaws : Type 0 where
