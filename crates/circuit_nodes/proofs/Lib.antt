@@ -2,6 +2,7 @@ pub mod Walking
 pub mod Counting
 pub mod Ranges
 pub mod Pushing
+pub mod Few
 pub mod Kept
 pub mod Unused
 pub mod Rules

@@ -5,7 +5,7 @@ use Rattle.std.specs.List.{list_any, slice_index_or, AllByRecursion}
 use Rattle.std.specs.Ordering.{int_eq}
 use Rattle.std.proofs.lemmas.Bool.{and_parts, ltb-true, ltb-false, lt-ltb, le-ltb, eqb-true, eq-eqb}
 use Rattle.std.proofs.lemmas.Bool.Decides.{Decides-int_eq}
-use Rattle.std.proofs.lemmas.List.Elements.{recursion_from_All}
+use Rattle.std.proofs.lemmas.List.Elements.{recursion_from_All, All-from_recursion}
 use Rattle.circuit_lines.specs.declared.line.Line.{Line}
 use Rattle.circuit_lines.specs.declared.line.Line.TheVariants.{Input as InputLine, Lin as LinLine, Switch as SwitchLine, Boot as BootLine, Out as OutLine}
 use Rattle.tfhe_level.specs.declared.level.TfheOp.{TfheOp}
@@ -142,6 +142,18 @@ rules lines none = (kept_rules lines [] lines (all_kept lines none)).0
 
 pub numbers : (lines : List Line) → broken_line lines ≡ None → AreNumbered 0 lines
 numbers lines none = (kept_rules lines [] lines (all_kept lines none)).1
+
+kept_natural : (lines : List Line) (earlier : List TfheOp) (others : List Line) → kept_from lines earlier others ≡ length others → AllByRecursion (λ line. IsTrue (are_natural line)) others
+kept_natural lines earlier [] e = tt
+kept_natural lines earlier (line ∷ others) e =
+    let op = op_of line in
+    let parts = kept_parts (keeps_its_rule lines earlier line) (kept_from lines (earlier ++ op ∷ []) others) (length others) e in
+    let whole = (and_parts (keeps_line earlier line) (is_used lines (length earlier) op) parts.0).0 in
+    let own = (and_parts (is_numbered (length earlier) line) (are_natural line && keeps_alone earlier op) whole).1 in
+    ((and_parts (are_natural line) (keeps_alone earlier op) own).0, kept_natural lines (earlier ++ op ∷ []) others parts.1)
+
+pub natural : (lines : List Line) → broken_line lines ≡ None → All (λ line. IsTrue (are_natural line)) lines
+natural lines none = All-from_recursion (λ line. IsTrue (are_natural line)) lines (kept_natural lines [] lines (all_kept lines none))
 
 used_test : (switch named : Bool) → (switch ≡ true → named ≡ true) → cond switch named true ≡ true
 used_test true named is = is refl

@@ -149,7 +149,7 @@ few_push ops (Out source lo hi) few e =
     let more = last_of_four (stands is_big_node ops source) (is_same_range (lo, hi) (range_on ops source)) (is_number_range lo hi) (ltb (count_by is_out ops) 64) e in
     record { inputs = omega (arith, few.inputs); lins = omega (arith, few.lins); switches = omega (arith, few.switches); boots = omega (arith, few.boots); outs = omega (arith, ltb-true (count_by is_out ops) 64 more) }
 
-kinds_push : (ops : List TfheOp) (op : TfheOp) → with_kind (kinds_of ops) op ≡ kinds_of (ops ++ op ∷ [])
+pub kinds_push : (ops : List TfheOp) (op : TfheOp) → with_kind (kinds_of ops) op ≡ kinds_of (ops ++ op ∷ [])
 kinds_push ops op = rw (count_push is_input ops op, count_push is_lin ops op, count_push is_switch ops op, count_push is_boot ops op, count_push is_out ops op) refl
 
 -- ---- what a leaf's range is

@@ -14,15 +14,18 @@ AreNumbered place (line ∷ lines) = IsTrue (is_numbered place line) × AreNumbe
 
 -- one walk over the lines finds what the rules ask of all of them
 pub record LineLaws : Type 0 where
+  -- no more operations are kept than a circuit has at most
+  pub few : (lines : List Line) → length (walk_from start lines).operations ≤ most_operations
   -- the first line that breaks its rule is found
-  pub found : (lines : List Line) → length (walk_from start lines).operations ≤ most_operations
-      → broken_place (walk_from start lines) ≡ broken_line lines
+  pub found : (lines : List Line) → broken_place (walk_from start lines) ≡ broken_line lines
   -- where none does, the operations are those of the lines,
   pub operations : (lines : List Line) → broken_line lines ≡ None → (walk_from start lines).operations ≡ map op_of lines
   -- which keep the rules of circuits,
   pub rules : (lines : List Line) → broken_line lines ≡ None → KeepRules (map op_of lines) [] (map op_of lines)
-  -- and each line has its number
+  -- each line has its number,
   pub numbers : (lines : List Line) → broken_line lines ≡ None → AreNumbered 0 lines
+  -- and no operand is a number below 0
+  pub natural : (lines : List Line) → broken_line lines ≡ None → All (λ line. IsTrue (are_natural line)) lines
   -- lines with their numbers, whose operands are no numbers below 0 and whose operations keep the rules, break none
   pub kept : (lines : List Line) → AreNumbered 0 lines → All (λ line. IsTrue (are_natural line)) lines
       → KeepRules (map op_of lines) [] (map op_of lines) → broken_line lines ≡ None

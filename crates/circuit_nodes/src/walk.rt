@@ -118,6 +118,7 @@ impl LineWalk {
     pub fn first_broken(&self) -> Option<u32>
         ensures place { result ≡ broken_place self.now }
         ensures few { length self.now.operations ≤ most_operations }
+        ensures most { IfSome result (λ place. place ≤ most_operations) }
     {
         let count = self.nodes.count();
         for place in 0..count {

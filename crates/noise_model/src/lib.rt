@@ -7,6 +7,7 @@
 mod bounds;
 mod cap;
 mod constraints;
+pub mod laws;
 mod noise;
 
 pub use bounds::{BoundRoom, edge_bounds};

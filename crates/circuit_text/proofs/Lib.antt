@@ -1,0 +1,12 @@
+pub mod Limits
+pub mod WalkLemmas
+pub mod Walked
+pub mod TextLemmas
+pub mod PlaceLemmas
+pub mod ParamsBack
+pub mod LinesBack
+pub mod ReadBack
+pub mod Ranges
+pub mod SmallOps
+pub mod SpelledBack
+pub mod TextSize

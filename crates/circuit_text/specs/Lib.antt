@@ -1,0 +1,9 @@
+pub mod Limits
+pub mod Faults
+pub mod Params
+pub mod Fitting
+pub mod Circuit
+pub mod Walks
+pub mod Steps
+pub mod Text
+pub mod Laws
