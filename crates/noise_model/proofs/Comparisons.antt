@@ -1,9 +1,9 @@
 -- which constraints are broken, and how a capped bound tells it
-use Rattle.std.proofs.Common.{◌≡◌, ℕ, ◌+◌, ◌-◌, ◌^◌, ◌<◌, ◌≤◌, Bool, true, false, List, [], ◌∷◌, length, All, sym, refl, ap, ◌∙◌, inl, inr, ◌⊎◌, arith, Option, Some, None, leb, add-zero, subst, ◌↔◌, ◌++◌}
+use Rattle.std.proofs.Common.{◌≡◌, ℕ, ◌+◌, ◌^◌, ◌<◌, ◌≤◌, Bool, true, false, List, [], ◌∷◌, All, sym, refl, ap, ◌∙◌, inl, inr, arith, Option, Some, None, leb, add-zero, subst, ◌↔◌, ◌++◌}
 use Rattle.std.specs.Prelude.{find, IsNone}
 use Rattle.std.specs.Option.{option_map, option_or}
 use Rattle.std.proofs.lemmas.List.Folds.{find-append}
-use Rattle.std.proofs.lemmas.Bool.{ltb-true, ltb-false, leb-true, leb-false, lt-ltb, le-ltb, le-leb, lt-leb, cases_Bool, true≢false}
+use Rattle.std.proofs.lemmas.Bool.{ltb-false, leb-false, le-ltb, le-leb, lt-leb, cases_Bool, true≢false}
 use Rattle.std.proofs.lemmas.List.Elements.{All-nil, All-cons, All-head, All-tail}
 use Rattle.fhe_params.specs.declared.params.Params.{Params}
 use Rattle.tfhe_level.specs.declared.shape.Shape.{Shape}

@@ -1,9 +1,9 @@
 -- the definitions on worked circuits and tables
-use Rattle.std.proofs.Common.{◌≡◌, ℕ, pos, List, [], ◌∷◌, refl, Some, None}
+use Rattle.std.proofs.Common.{◌≡◌, ℕ, pos, List, [], ◌∷◌, refl}
 use Rattle.fhe_params.specs.declared.params.Params.{Params}
 use Rattle.tfhe_level.specs.declared.level.TfheOp.{TfheOp}
 use Rattle.tfhe_level.specs.declared.level.TfheOp.TheVariants.{Input, Lin, Switch, Boot, Out}
-use Rattle.noise_model.specs.Bounds.{noise_bounds, switch_noise, boot_noise}
+use Rattle.noise_model.specs.Bounds.{noise_bounds}
 use Rattle.noise_model.specs.Constraints.{modulus_noise}
 
 -- one choice at N 256 or 16, with small keys

@@ -1,9 +1,9 @@
 -- the first broken constraint on an edge, looked for operation by operation
-use Rattle.std.proofs.Common.{◌≡◌, ℕ, zero, suc, ◌+◌, ◌-◌, ◌^◌, ◌<◌, ◌≤◌, Bool, true, false, List, [], ◌∷◌, ◌++◌, length, map, take, drop, get_or, sym, refl, ap, ◌∙◌, arith, Option, Some, None, leb, add-zero}
+use Rattle.std.proofs.Common.{◌≡◌, ℕ, ◌+◌, ◌≤◌, Bool, true, false, List, [], ◌∷◌, ◌++◌, length, map, take, drop, get_or, sym, refl, ap, ◌∙◌, arith, Some, None}
 use Rattle.std.specs.Prelude.{filter_map, find}
 use Rattle.std.specs.List.{enumerate_from, slice_get, cons_option}
 use Rattle.std.specs.Option.{option_map, option_or}
-use Rattle.std.proofs.lemmas.List.{take_more, drop_more, take-append-drop, map-append, append-nil, length_push}
+use Rattle.std.proofs.lemmas.List.{take_more, take_all, append_assoc, drop_more, take-append-drop, map-append, append-nil, length_push}
 use Rattle.std.proofs.lemmas.List.Elements.{filter_map-append}
 use Rattle.std.proofs.lemmas.List.Folds.{find-append}
 use Rattle.std.proofs.lemmas.Option.{slice_get_within, get_or_from_slice_get}
@@ -19,7 +19,7 @@ use Rattle.noise_model.specs.Constraints.{Comparison, is_broken, as_broken, half
 use Rattle.noise_model.specs.Edges.{source_of, added_at, constraint_at, edge_constraint, edge_constraints}
 use Rattle.noise_model.proofs.CappedSums.{capped-add}
 use Rattle.noise_model.proofs.NodeBounds.{read-capped}
-use Rattle.noise_model.proofs.Comparisons.{as_broken-edge, edge_broken}
+use Rattle.noise_model.proofs.Comparisons.{as_broken-edge}
 
 -- numbers go on behind those of the first part
 enumerate_from-append : {A : Type 0} (n m : ℕ) (xs ys : List A) → n + length xs ≡ m → enumerate_from n (xs ++ ys) ≡ enumerate_from n xs ++ enumerate_from m ys
@@ -111,10 +111,56 @@ edge_bound edge p shape source room read added bound room_is read_is added_is is
     let whole : read ≡ capped (noise_bound p (nodes_of shape) source) = read_is ∙ ap (λ xs. get_or xs source 0) room_is ∙ read-capped (noise_bounds p (nodes_of shape)) source in
     is ∙ ap (λ n. capped (n + added)) whole ∙ ap (λ n. capped (capped (noise_bound p (nodes_of shape) source) + n)) added_is ∙ capped-add (noise_bound p (nodes_of shape) source) (added_at edge p)
 
--- what is answered at the first edge over its limit
-pub edge_found : (edge : Edge) (p : Params) (shape : Shape) (n count source : ℕ) (op : TfheOp) (on : Constraint) (bound limit : ℕ) → NoneYet edge p shape n count → slice_get (nodes_of shape) n ≡ Some op → source_of edge op ≡ Some source → on ≡ constraint_at edge count → bound ≡ capped (noise_bound p (nodes_of shape) source + added_at edge p) → limit ≡ half_step shape.width → limit ≤ 2 ^ 62 → limit ≤ bound → Some (record { at = on; bound = bound; limit = limit }) ≡ option_map as_broken (find is_broken (edge_constraints edge p shape (nodes_of shape)))
-edge_found edge p shape n count source op on bound limit yet at is on_is bound_is limit_is small over =
+-- a constraint as it is compared
+pub compared_is : (edge : Edge) (p : Params) (shape : Shape) (count source : ℕ) (on : Constraint) (bound limit : ℕ) → on ≡ constraint_at edge count → bound ≡ capped (noise_bound p (nodes_of shape) source + added_at edge p) → limit ≡ half_step shape.width → record { at = on; bound = bound; limit = limit } ≡ as_broken (edge_constraint edge p shape (count, source))
+compared_is edge p shape count source on bound limit on_is bound_is limit_is =
     let given : Constraint → ℕ → ℕ → Broken = λ a b l. record { at = a; bound = b; limit = l } in
-    let whole : given on bound limit ≡ as_broken (edge_constraint edge p shape (count, source)) =
-    ap (λ a. given a bound limit) on_is ∙ ap (λ b. given (constraint_at edge count) b limit) bound_is ∙ ap (given (constraint_at edge count) (capped (noise_bound p (nodes_of shape) source + added_at edge p))) limit_is ∙ sym (as_broken-edge edge p shape count source) in
-    ap Some whole ∙ sym (ap (option_map as_broken) (first_edge edge p shape n count source op yet at is (edge_broken edge p shape count source bound limit limit_is small bound_is over)))
+    ap (λ a. given a bound limit) on_is ∙ ap (λ b. given (constraint_at edge count) b limit) bound_is ∙ ap (given (constraint_at edge count) (capped (noise_bound p (nodes_of shape) source + added_at edge p))) limit_is ∙ sym (as_broken-edge edge p shape count source)
+
+-- what is answered at the first edge over its limit
+pub edge_found : (edge : Edge) (p : Params) (shape : Shape) (n count source : ℕ) (op : TfheOp) (compared : Broken) → NoneYet edge p shape n count → slice_get (nodes_of shape) n ≡ Some op → source_of edge op ≡ Some source → compared ≡ as_broken (edge_constraint edge p shape (count, source)) → is_broken (edge_constraint edge p shape (count, source)) ≡ true → Some compared ≡ option_map as_broken (find is_broken (edge_constraints edge p shape (nodes_of shape)))
+edge_found edge p shape n count source op compared yet at is compared_is broken =
+    ap Some compared_is ∙ sym (ap (option_map as_broken) (first_edge edge p shape n count source op yet at is broken))
+
+-- ---- all constraints, one after the other
+
+-- the constraints on the edges so far are there, behind what was
+pub record AllYet (edge : Edge) (p : Params) (shape : Shape) (start now : List Broken) (n count : ℕ) : Type 0 where
+  pub number : count ≡ length (filter_map (source_of edge) (take n (nodes_of shape)))
+  pub list : now ≡ start ++ map as_broken (edge_constraints edge p shape (take n (nodes_of shape)))
+
+same_sources : (edge : Edge) (p : Params) (shape : Shape) (n : ℕ) (op : TfheOp) → slice_get (nodes_of shape) n ≡ Some op → source_of edge op ≡ None → filter_map (source_of edge) (take (n + 1) (nodes_of shape)) ≡ filter_map (source_of edge) (take n (nodes_of shape))
+same_sources edge p shape n op at is =
+    let nodes : List TfheOp = nodes_of shape in
+    ap (filter_map (source_of edge)) (one_more nodes n op at) ∙ filter_map-append (source_of edge) (take n nodes) (op ∷ []) ∙ ap (λ xs. filter_map (source_of edge) (take n nodes) ++ xs) (edge_none edge op is) ∙ append-nil (filter_map (source_of edge) (take n nodes))
+
+pub all_yet_skip : (edge : Edge) (p : Params) (shape : Shape) (start now : List Broken) (n count : ℕ) (op : TfheOp) → AllYet edge p shape start now n count → slice_get (nodes_of shape) n ≡ Some op → source_of edge op ≡ None → AllYet edge p shape start now (n + 1) count
+all_yet_skip edge p shape start now n count op yet at is =
+    let same = same_sources edge p shape n op at is in
+    record {
+      number = yet.number ∙ sym (ap length same);
+      list = yet.list ∙ ap (λ xs. start ++ map as_broken (map (edge_constraint edge p shape) (enumerate_from 0 xs))) (sym same);
+    }
+
+pub all_yet_more : (edge : Edge) (p : Params) (shape : Shape) (start now next : List Broken) (n count source : ℕ) (op : TfheOp) (compared : Broken) → AllYet edge p shape start now n count → slice_get (nodes_of shape) n ≡ Some op → source_of edge op ≡ Some source → compared ≡ as_broken (edge_constraint edge p shape (count, source)) → next ≡ now ++ compared ∷ [] → AllYet edge p shape start next (n + 1) (count + 1)
+all_yet_more edge p shape start now next n count source op compared yet at is compared_is pushed =
+    let nodes : List TfheOp = nodes_of shape in
+    let before : List Comparison = edge_constraints edge p shape (take n nodes) in
+    let sources : filter_map (source_of edge) (take (n + 1) nodes) ≡ filter_map (source_of edge) (take n nodes) ++ source ∷ [] =
+    ap (filter_map (source_of edge)) (one_more nodes n op at) ∙ filter_map-append (source_of edge) (take n nodes) (op ∷ []) ∙ ap (λ o. filter_map (source_of edge) (take n nodes) ++ cons_option o []) is in
+    let grown : edge_constraints edge p shape (take (n + 1) nodes) ≡ before ++ edge_constraint edge p shape (count, source) ∷ [] =
+    ap (λ xs. edge_constraints edge p shape xs) (one_more nodes n op at)
+    ∙ edges-append edge p shape count (take n nodes) (op ∷ []) yet.number
+    ∙ ap (λ xs. before ++ xs) (edge_first edge p shape count source op [] is) in
+    record {
+      number = ap (λ k. k + 1) yet.number ∙ sym (ap length sources ∙ length_push (filter_map (source_of edge) (take n nodes)) source);
+      list =
+          pushed
+          ∙ ap (λ xs. xs ++ compared ∷ []) yet.list
+          ∙ append_assoc start (map as_broken before) (compared ∷ [])
+          ∙ ap (λ b. start ++ (map as_broken before ++ b ∷ [])) compared_is
+          ∙ ap (λ xs. start ++ xs) (sym (ap (map as_broken) grown ∙ map-append as_broken before (edge_constraint edge p shape (count, source) ∷ [])));
+    }
+
+pub all_yet_whole : (edge : Edge) (p : Params) (shape : Shape) (start now : List Broken) (n count : ℕ) → AllYet edge p shape start now n count → length (nodes_of shape) ≤ n → now ≡ start ++ map as_broken (edge_constraints edge p shape (nodes_of shape))
+all_yet_whole edge p shape start now n count yet over = yet.list ∙ ap (λ xs. start ++ map as_broken (edge_constraints edge p shape xs)) (take_all n (nodes_of shape) over)

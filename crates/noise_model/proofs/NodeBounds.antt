@@ -1,5 +1,5 @@
 -- the capped bounds of the operations before one give its own
-use Rattle.std.proofs.Common.{◌≡◌, ℕ, zero, suc, ◌+◌, ◌*◌, ◌^◌, ◌<◌, ◌≤◌, ℤ, List, [], ◌∷◌, ◌++◌, length, map, take, set, get_or, All, sym, refl, ap, ◌∙◌, arith, Some}
+use Rattle.std.proofs.Common.{◌≡◌, ℕ, zero, suc, ◌+◌, ◌*◌, ◌<◌, ℤ, List, [], ◌∷◌, ◌++◌, length, map, take, set, get_or, All, sym, refl, ap, ◌∙◌, arith, Some}
 use Rattle.std.specs.Prelude.{unsigned_abs}
 use Rattle.std.specs.List.{sum_by, slice_get}
 use Rattle.std.proofs.lemmas.List.{get_or-take, get_or-map, take_more, take_more_set, map_push, length-map}

@@ -1,15 +1,13 @@
 -- Bootstraps and outs alike: where the noise of an operation is compared with half a step.
-use Rattle.std.specs.Prelude.{ℕ, ◌+◌, List, map, filter_map, Option}
+use Rattle.std.specs.Prelude.{ℕ, List, map, filter_map, Option}
 use Rattle.std.specs.List.{enumerate_from}
 use Rattle.fhe_params.specs.declared.params.Params.{Params}
 use Rattle.tfhe_level.specs.declared.level.TfheOp.{TfheOp}
 use Rattle.tfhe_level.specs.declared.shape.Shape.{Shape}
-use Rattle.tfhe_level.specs.Nodes.{nodes_of}
 use Rattle.noise_model.specs.declared.constraints.Constraint.{Constraint}
 use Rattle.noise_model.specs.declared.constraints.Constraint.TheVariants.{Boot as AtBoot, Result as AtResult}
 use Rattle.noise_model.specs.declared.constraints.Edge.{Edge}
 use Rattle.noise_model.specs.declared.constraints.Edge.TheVariants.{IntoBoot, OutOfCircuit}
-use Rattle.noise_model.specs.Bounds.{noise_bound}
 use Rattle.noise_model.specs.Constraints.{Comparison, modulus_noise, boot_source, out_source, boot_constraint, out_constraint}
 
 -- the operation whose noise is compared

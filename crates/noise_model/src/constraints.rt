@@ -1,21 +1,22 @@
 //! The constraints on the parameters of a circuit.
 
-ghost use Rattle.std.specs.Prelude.{◌≡◌, ◌<◌, ◌≤◌, ◌^◌, ◌↔◌, length, map, filter_map, find, IsNone, IfSome, Contains};
+ghost use Rattle.std.specs.Prelude.{◌≡◌, ◌<◌, ◌≤◌, ◌+◌, ◌++◌, ◌^◌, ◌↔◌, length, map, filter_map, find, IsNone, IfSome, OnOk, IfOk, Contains};
 ghost use Rattle.std.specs.List.{enumerate_from, list_any};
-ghost use Rattle.std.specs.Option.{option_map};
+ghost use Rattle.std.specs.Option.{option_map, option_to_list};
 ghost use Rattle.ir_core.specs.Placed.{IsPlaced};
 ghost use Rattle.fhe_params.specs.Params.{IsParams};
 ghost use Rattle.forms.specs.Limits.{most_width};
 ghost use Rattle.tfhe_level.specs.Operations.{operands_of, is_boot};
 ghost use Rattle.tfhe_level.specs.Nodes.{nodes_of};
-ghost use Rattle.noise_model.specs.Bounds.{noise_bounds, capped};
+ghost use Rattle.noise_model.specs.Bounds.{noise_bound, noise_bounds, capped};
 ghost use Rattle.noise_model.specs.Constraints.{size_constraint, half_step, is_broken, as_broken, noise_constraints, first_broken_of, MeetsAll};
-ghost use Rattle.noise_model.specs.Edges.{source_of, added_at, constraint_at, edge_constraints};
+ghost use Rattle.noise_model.specs.Edges.{source_of, added_at, constraint_at, edge_constraint, edge_constraints};
 
 use crate::bounds::{BoundRoom, edge_bounds};
 use crate::cap::cap_add;
 use crate::noise::modulus_noise;
 use fhe_params::{Params, key_words};
+use std::alloc::{AllocError, Global};
 use tfhe_level::{Shape, TfheOp};
 
 /// The most words of evaluation keys: 256 MiB.
@@ -96,6 +97,32 @@ fn half_step(width: u32) -> u128
     1 << (62 - width)
 }
 
+/// The constraint on the edge with a number, on this operation, as it is compared.
+fn edge_constraint(
+    edge: Edge,
+    count: u32,
+    source: u32,
+    shape: &Shape,
+    params: &Params,
+    room: &BoundRoom,
+) -> Broken
+    requires there { source < length (nodes_of shape.now) }
+    requires params { IsParams params.now }
+    requires width { shape.now.width ≤ most_width }
+    requires room { room.now ≡ map capped (noise_bounds params.now (nodes_of shape.now)) }
+    ensures constraint { result ≡ as_broken (edge_constraint edge params.now shape.now (count, source)) }
+    ensures bound { result.bound
+        ≡ capped (noise_bound params.now (nodes_of shape.now) source + added_at edge params.now) }
+    ensures limit { result.limit ≡ half_step shape.now.width }
+    ensures small { result.limit ≤ 2 ^ 62 }
+{
+    Broken {
+        at: constraint_at(edge, count),
+        bound: cap_add(room.bound(source), added_at(edge, params)),
+        limit: half_step(shape.width),
+    }
+}
+
 /// The first edge of a kind at which the bound is not below half a step.
 fn first_edge_over(shape: &Shape, params: &Params, edge: Edge, room: &BoundRoom) -> Option<Broken>
     requires placed { IsPlaced shape.now.graph }
@@ -105,23 +132,63 @@ fn first_edge_over(shape: &Shape, params: &Params, edge: Edge, room: &BoundRoom)
     ensures { result
         ≡ option_map as_broken (find is_broken (edge_constraints edge params.now shape.now (nodes_of shape.now))) }
 {
-    let limit = half_step(shape.width);
-    let added = added_at(edge, params);
     let mut count = 0;
     for number in 0..shape.node_count() {
         if let Some(source) = source_of(edge, shape.node(number)) {
-            let bound = cap_add(room.bound(source), added);
-            if bound >= limit {
-                return Some(Broken {
-                    at: constraint_at(edge, count),
-                    bound,
-                    limit,
-                });
+            let compared = edge_constraint(edge, count, source, shape, params, room);
+            if compared.bound >= compared.limit {
+                return Some(compared);
             }
             count += 1;
         }
     }
     None
+}
+
+/// Adds the constraints on all edges of a kind.
+fn put_edges(
+    into: &mut Vec<Broken>,
+    shape: &Shape,
+    params: &Params,
+    edge: Edge,
+    room: &BoundRoom,
+) -> Result<(), AllocError>
+    requires placed { IsPlaced shape.now.graph }
+    requires params { IsParams params.now }
+    requires width { shape.now.width ≤ most_width }
+    requires room { room.now ≡ map capped (noise_bounds params.now (nodes_of shape.now)) }
+    ensures { OnOk result (into.new.items
+        ≡ into.old.items ++ map as_broken (edge_constraints edge params.now shape.now (nodes_of shape.now))) }
+{
+    let mut count = 0;
+    for number in 0..shape.node_count() {
+        if let Some(source) = source_of(edge, shape.node(number)) {
+            into.push(edge_constraint(edge, count, source, shape, params, room))?;
+            count += 1;
+        }
+    }
+    Ok(())
+}
+
+/// The constraints on bootstraps and then those on outs, broken or not, as they are compared: each bound is the least of
+/// itself and 2^64. The room has the bounds that `edge_bounds` or `first_broken` left for these parameters. It fails only
+/// for memory.
+pub fn noise_constraints(
+    alloc: Global,
+    shape: &Shape,
+    params: &Params,
+    room: &BoundRoom,
+) -> Result<Vec<Broken>, AllocError>
+    requires placed { IsPlaced shape.now.graph }
+    requires params { IsParams params.now }
+    requires width { shape.now.width ≤ most_width }
+    requires room { room.now ≡ map capped (noise_bounds params.now (nodes_of shape.now)) }
+    ensures { IfOk result (λ list. list.items ≡ map as_broken (noise_constraints params.now shape.now)) }
+{
+    let mut list = Vec::new(alloc);
+    put_edges(&mut list, shape, params, Edge::IntoBoot, room)?;
+    put_edges(&mut list, shape, params, Edge::OutOfCircuit, room)?;
+    Ok(list)
 }
 
 /// Whether an operation is a bootstrap.
@@ -142,6 +209,23 @@ fn has_boot(shape: &Shape) -> bool
         }
     }
     false
+}
+
+/// The constraint on the size of the keys, broken or not, as it is compared; there is none without a bootstrap.
+pub fn size_constraint(shape: &Shape, params: &Params) -> Option<Broken>
+    requires placed { IsPlaced shape.now.graph }
+    requires params { IsParams params.now }
+    ensures { option_to_list result ≡ map as_broken (size_constraint params.now (nodes_of shape.now)) }
+{
+    if has_boot(shape) {
+        Some(Broken {
+            at: Constraint::Size,
+            bound: u128::from(key_words(params)),
+            limit: MOST_KEY_WORDS,
+        })
+    } else {
+        None
+    }
 }
 
 /// The constraint on the size of the keys, where it is broken.

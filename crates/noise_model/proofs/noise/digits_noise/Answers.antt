@@ -1,4 +1,4 @@
-use Rattle.std.proofs.Common.{ℕ, ◌≤◌, arith}
+use Rattle.std.proofs.Common.{◌≤◌, arith}
 use Rattle.noise_model.proofs.Products.{two_most, ones_most}
 use Rattle.noise_model.proofs.noise.digits_noise.Goals as goal
 

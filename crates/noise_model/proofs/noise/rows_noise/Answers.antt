@@ -1,4 +1,4 @@
-use Rattle.std.proofs.Common.{ℕ, ◌≤◌, arith}
+use Rattle.std.proofs.Common.{◌≤◌, arith}
 use Rattle.noise_model.proofs.Products.{four_most, five_most, level_most}
 use Rattle.noise_model.proofs.noise.rows_noise.Goals as goal
 
