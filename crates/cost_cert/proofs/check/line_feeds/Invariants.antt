@@ -1,0 +1,10 @@
+use Rattle.std.proofs.Common.{◌≡◌, ◌≤◌, take}
+use Rattle.std.specs.Prelude.{count_by}
+use Rattle.cost_cert.specs.Check.{is_line_feed}
+use Rattle.cost_cert.proofs.check.line_feeds.Given as goal
+
+abbrev pub invariant-loop-byte : goal.invariant-loop-byte
+invariant-loop-byte l = record {
+  count : l.count ≡ count_by is_line_feed (take l.byte-index l.text);
+  few : l.count ≤ l.byte-index;
+}

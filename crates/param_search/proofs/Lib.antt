@@ -1,0 +1,10 @@
+pub mod Members
+pub mod Ordering
+pub mod Ties
+pub mod Growing
+pub mod Trying
+pub mod Results
+pub mod Chosen
+pub mod Ordered
+pub mod Firsts
+pub mod LeastOne
