@@ -1,0 +1,5 @@
+pub mod Pieces
+pub mod Written
+pub mod SecretTexts
+pub mod CipherTexts
+pub mod RangeMatches

@@ -1,0 +1,3 @@
+pub mod SecretFile
+pub mod CipherFile
+pub mod Laws
