@@ -1,0 +1,11 @@
+pub mod Places
+pub mod Operands
+pub mod RoomRows
+pub mod Runs
+pub mod Ranges
+pub mod Constraints
+pub mod Ready
+pub mod Terms
+pub mod Stands
+pub mod Outputs
+pub mod Sums
