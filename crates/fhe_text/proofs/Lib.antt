@@ -26,3 +26,17 @@ pub mod FuncReads
 pub mod StatementReads
 pub mod Sources
 pub mod ValueReads
+pub mod Decimals
+pub mod PrintedTokens
+pub mod Made
+pub mod MadeParts
+pub mod Steps
+pub mod ValueNames
+pub mod BackParts
+pub mod BackArgs
+pub mod BackSource
+pub mod Keeps
+pub mod Rules
+pub mod MadeSource
+pub mod PrintedPrograms
+pub mod Calls

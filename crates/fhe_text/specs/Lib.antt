@@ -9,4 +9,5 @@ pub mod Reading
 pub mod Printing
 pub mod Rest
 pub mod Descent
+pub mod Spellable
 pub mod Laws

@@ -4,7 +4,10 @@ ghost use Rattle.std.specs.Prelude.{◌≡◌, ◌++◌, ◌+◌, ◌<◌, ◌�
 ghost use Rattle.std.specs.String.{string_bytes};
 ghost use Rattle.std.specs.Fmt.{signed_decimal};
 ghost use Rattle.fhe_text.specs.Printing.{comma_before, type_text, value_text, types_text, values_text, numbers_text, entries_text, statement_text, statement_line, statements_text, arg_text, args_text, results_text, program_text};
+ghost use Rattle.fhe_text.specs.Faults.{Spells};
+ghost use Rattle.fhe_text.specs.Spellable.{IsSpellable};
 
+use crate::laws::laws;
 use crate::op_names::op_literal;
 use crate::source::{Arg, Entries, Source, Statement, WrittenType};
 use std::alloc::{AllocError, Global};
@@ -197,10 +200,26 @@ fn put_results(text: &mut String, results: &[WrittenType]) -> Result<(), AllocEr
     }
 }
 
-/// A program in its one layout, of which the names of arguments and values are told by their numbers. It fails only
-/// for memory.
-#[tactic(auto, unfolding(crate::specs::Printing::program_text))]
+/// How many values a source has: its lists lie in memory.
+fn few_values(args: &[Arg], body: &[Statement])
+    ensures { length args.now + length body.now < 2 ^ 65 }
+{}
+
+/// A program in its one layout, in which arguments and statements are named by their numbers. It fails only for memory.
+///
+/// The text spells the source, unless that breaks a rule of sources; none that was read does. So it is read back.
 pub fn print_program(alloc: Global, source: &Source) -> Result<Vec<u8>, AllocError>
+    ensures text { IfOk result (λ text. text.items ≡ program_text source.now) }
+    ensures spells { IfOk result (λ text. IsSpellable source.now → Spells text.items source.now) }
+{
+    few_values(source.args.as_slice(), source.body.as_slice());
+    laws();
+    print_text(alloc, source)
+}
+
+/// The text of a program.
+#[tactic(auto, unfolding(crate::specs::Printing::program_text))]
+fn print_text(alloc: Global, source: &Source) -> Result<Vec<u8>, AllocError>
     ensures { IfOk result (λ text. text.items ≡ program_text source.now) }
 {
     let args = source.args.len();

@@ -9,11 +9,13 @@ ghost use Rattle.fhe_text.specs.Faults.{fault_at, spelled};
 ghost use Rattle.fhe_text.specs.Reading.{end_fault, wrong_fault, program_of};
 ghost use Rattle.fhe_text.specs.Rest.{pieces, IsBehind, HasRoom};
 ghost use Rattle.fhe_text.specs.Roles.{word, function_name};
+ghost use Rattle.fhe_text.specs.Spellable.{IsSpellable};
 ghost use Rattle.fhe_text.specs.Descent.{computed_at, statement_at, next_statement_at, statements_at, return_word_at, return_at, func_at, module_at, unit_at, source_at, role_at, body_at, finished};
 
 use crate::args::{args_at, new_name_at};
 use crate::constants::constant_at;
 use crate::fault::{TextFault, TextKind, TextRefusal, Wrong};
+use crate::laws::laws;
 use crate::names::Names;
 use crate::operations::{applied_at, values_at};
 use crate::rest::Rest;
@@ -32,6 +34,16 @@ use std::alloc::Global;
 pub fn read_program(alloc: Global, bytes: &[u8]) -> Result<Source, TextRefusal>
     requires { length bytes.now ≤ 2 ^ 20 }
     ensures exact { Gives (λ source. source) result (program_of bytes.now) }
+    ensures rules { IfOk result IsSpellable }
+{
+    laws();
+    read_text(alloc, bytes)
+}
+
+/// The program that a text spells.
+fn read_text(alloc: Global, bytes: &[u8]) -> Result<Source, TextRefusal>
+    requires { length bytes.now ≤ 2 ^ 20 }
+    ensures { Gives (λ source. source) result (program_of bytes.now) }
 {
     let tokens = lex(alloc, bytes)?;
     mlir_lex::laws::laws();

@@ -9,7 +9,7 @@ use std::test::Fail;
 type Row = (&'static str, u32, u32, TextKind);
 
 /// Each place was worked out by hand from the productions and the further conditions.
-const FAULTS: [Row; 57] = [
+const FAULTS: [Row; 66] = [
     // the function
     ("x", 1, 1, Syntax),
     ("func.func f", 1, 11, Syntax),
@@ -136,13 +136,63 @@ const FAULTS: [Row; 57] = [
         3,
         Name,
     ),
+    // lines that end with CR LF or LF, tabs and comments
+    (
+        "func.func @f(%a: !FHE.eint<2>) -> !FHE.eint<2> {\r\n\t%b = \"FHE.neg\"",
+        2,
+        7,
+        Op,
+    ),
+    (
+        "module\t{\r\nfunc.func\t@f(%a:!FHE.eint<2>)->(!FHE.eint<2>){\r\n//\r\n\treturn\t%a:i5,$",
+        4,
+        15,
+        Token,
+    ),
+    (
+        "func.func @f(%a: !FHE.eint<2>) -> !FHE.eint<2> {\n  return %a : i5\n} // the end\n{",
+        4,
+        1,
+        Syntax,
+    ),
+    (
+        "func.func @f(%a: !FHE.eint<2>) -> !FHE.eint<2> {\n  return %a : i5\n",
+        3,
+        1,
+        End,
+    ),
+    (
+        "func.func @f(%a: !FHE.eint<2>) -> !FHE.eint<2> { return %a : i5 // }",
+        1,
+        69,
+        End,
+    ),
+    (
+        "func.func @f() -> !FHE.eint<2> {\n  func.return",
+        2,
+        3,
+        Syntax,
+    ),
+    ("// one\r\n\r\n// two", 3, 7, End),
+    (
+        "func.func @f(%a: !FHE.eint<2> {fhec.range = [0, 3], p = 1,\n  fhec.range",
+        2,
+        3,
+        Syntax,
+    ),
+    (
+        "func.func @f(%a: !FHE.eint<2> {fhec.range = [-9223372036854775809, 9223372036854775808]},\n%b: !FHE.eint<2>, %a",
+        2,
+        19,
+        Name,
+    ),
 ];
 
 /// The front of a function.
 const FRONT: &str = "func.func @f(%a: !FHE.eint<2>) -> !FHE.eint<2> { ";
 
 /// What stands behind the front, and the column and the kind of its fault in line 1, worked out in the same way.
-const BODY_FAULTS: [(&str, u32, TextKind); 71] = [
+const BODY_FAULTS: [(&str, u32, TextKind); 89] = [
     // the function
     ("}", 50, Syntax),
     ("return %a : !FHE.eint<2> } }", 77, Syntax),
@@ -245,6 +295,55 @@ const BODY_FAULTS: [(&str, u32, TextKind); 71] = [
     ("\"", 50, Token),
     ("return %a : !FHE.eint<2> } $", 77, Token),
     ("return %b : !FHE.eint<2> }", 57, Name),
+    // later operands and values
+    ("%b = \"FHE.add_eint\"(%a, %c", 74, Name),
+    (
+        "%b = \"FHE.zero\"() : () -> i5 %c = \"FHE.add_eint\"(%b, %d",
+        103,
+        Name,
+    ),
+    ("%b = \"FHE.zero\"() : () -> i5 return %b, %c", 90, Name),
+    ("%b = \"FHE.add_eint \"", 55, Op),
+    (
+        "%b = \"FHE.neg_eint\"(%a) {p = 1, q = 2 : ui3, fhec.range [",
+        106,
+        Syntax,
+    ),
+    // numbers at their ends
+    (
+        "%b = arith.constant dense<[0, 1, -9223372036854775809",
+        83,
+        Syntax,
+    ),
+    (
+        "%b = arith.constant dense<[-3, 1]> : tensor<2xi2",
+        95,
+        Constant,
+    ),
+    (
+        "%b = arith.constant 9223372036854775807 : i63",
+        92,
+        Constant,
+    ),
+    (
+        "%b = arith.constant -9223372036854775808 : i64 }",
+        97,
+        Syntax,
+    ),
+    (
+        "%b = arith.constant dense<1> : tensor<002147483649xi5>",
+        88,
+        Shape,
+    ),
+    // written types of results and returned values
+    ("%b = \"FHE.zero\"() : (i5, tensor<0xi5>", 82, Shape),
+    ("%b = \"FHE.zero\"() : () -> tensor<0xi5>", 83, Shape),
+    ("%b = \"FHE.zero\"() : () -> (tensor<2i5>", 85, Syntax),
+    ("%b = \"FHE.zero\"() : () -> (i5) )", 81, Syntax),
+    ("return %a : tensor<2147483649xi5>", 69, Shape),
+    ("return %a : i5, tensor<4xi0>", 74, Syntax),
+    ("return %a : !FHE.eint<1000000000>", 72, Syntax),
+    ("func.return %a : i5 func.return", 70, Syntax),
 ];
 
 /// Three arguments, a weighted sum and a table of squares.
@@ -297,6 +396,7 @@ const PRINTED_CONSTANTS: &str = r#"func.func @main() -> (!FHE.eint<1>, !FHE.eint
   %7 = "FHE.add_eint_int"() : () -> i4
   %8 = "FHE.sub_eint"() : () -> i1
   %9 = "FHE.neg_eint"(%5) : () -> i1
+  %10 = arith.constant 9223372036854775807 : i64
   return %9, %9 : i5, tensor<16xi64>
 }
 "#;
@@ -495,6 +595,7 @@ const CONSTANTS: &str = r#"func.func @f() -> (!FHE.eint<1>, !FHE.eint<2>) {
   %3 = "FHE.add_eint_int"() : () -> i4
   %4 = "FHE.sub_eint"() : () -> i1
   %5 = "FHE.neg_eint"(%1) : () -> i1
+  %6 = arith.constant 9223372036854775807 : i64
   func.return %5, %5 : i5, tensor<016xi64>
 }"#;
 
@@ -503,7 +604,7 @@ fn constants_reach_the_ends_of_their_types(rt: HostRuntime) -> Result<(), Fail> 
     let source = source_of(&rt, CONSTANTS.as_bytes())?;
     let body = source.body.as_slice();
     let int = |bits| WrittenType::Int(bits);
-    assert_eq!(rt; body.len(), 10);
+    assert_eq!(rt; body.len(), 11);
     assert!(rt; body.first().is_some_and(|s| is_int(s, i64::MIN, 64)));
     assert!(rt; body.get(1).is_some_and(|s| is_int(s, 0, 1)));
     assert!(rt; body.get(2).is_some_and(|s| is_list(s, &[-1, 0], 1)));
@@ -537,6 +638,7 @@ fn constants_reach_the_ends_of_their_types(rt: HostRuntime) -> Result<(), Fail> 
         body.get(9)
             .is_some_and(|s| is_op(s, OpName::NegEint, &[5], &[], int(1)))
     );
+    assert!(rt; body.get(10).is_some_and(|s| is_int(s, i64::MAX, 64)));
     let tensor = WrittenType::Tensor {
         length: 16,
         bits: 64,

@@ -1,4 +1,4 @@
-use Rattle.std.proofs.Common.{◌++◌, List, ℕ, ℤ, pos, get_or, ap, ◌∙◌}
+use Rattle.std.proofs.Common.{◌++◌, List, ℕ, get_or, ap, ◌∙◌}
 use Rattle.std.specs.String.{string_bytes}
 use Rattle.fhe_text.specs.declared.source.WrittenType.{WrittenType}
 use Rattle.fhe_text.specs.declared.source.WrittenType.TheVariants as types

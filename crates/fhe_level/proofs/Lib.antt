@@ -1,0 +1,7 @@
+mod Examples
+pub mod Widths
+pub mod Steps
+pub mod Whole
+pub mod Values
+pub mod Entries
+pub mod Clears

@@ -1,0 +1,22 @@
+-- What holds of the values of operations.
+use Rattle.std.specs.Prelude.{◌≡◌, ℕ, ◌<◌, ◌≤◌, ℤ, List, length, take, Some}
+use Rattle.std.specs.List.{slice_get}
+use Rattle.ir_core.specs.Graph.{place_of}
+use Rattle.fhe_level.specs.declared.level.FheOp.{FheOp}
+use Rattle.fhe_level.specs.Programs.{value_at, value_of, operation_values}
+
+-- values hang on the operations before, wherever these stand
+pub record ValueLaws : Type 0 where
+  -- the value of an operation comes from those of the operations before its place,
+  pub here : (inputs : List ℤ) (operations : List (ℕ × FheOp)) (wanted : ℕ) (op : FheOp)
+      → slice_get operations (place_of operations wanted) ≡ Some (wanted, op)
+      → value_at (operation_values operations inputs) wanted
+      ≡ value_of inputs (operation_values (take (place_of operations wanted) operations) inputs) op
+  -- which have there the values that they have among all;
+  pub before : (inputs : List ℤ) (operations : List (ℕ × FheOp)) (place wanted : ℕ)
+      → place_of operations wanted < place → place ≤ length operations
+      → value_at (operation_values (take place operations) inputs) wanted
+      ≡ value_at (operation_values operations inputs) wanted
+  -- there are as many values as operations
+  pub count : (inputs : List ℤ) (operations : List (ℕ × FheOp)) (place : ℕ) → place ≤ length operations
+      → length (operation_values (take place operations) inputs) ≡ place

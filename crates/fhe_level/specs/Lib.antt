@@ -1,0 +1,10 @@
+pub mod Limits
+pub mod Rows
+pub mod Operations
+pub mod PutOperands
+pub mod Types
+pub mod Programs
+pub mod Building
+pub mod Clearing
+pub mod Room
+pub mod Laws
