@@ -1,3 +1,4 @@
 pub mod SecretFile
 pub mod CipherFile
+pub mod EvalFile
 pub mod Laws

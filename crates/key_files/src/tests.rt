@@ -1,7 +1,9 @@
 ghost use Rattle.std.specs.Prelude.{◌≡◌, ◌≤◌, ◌<◌, ◌^◌};
 
 use super::*;
-use fhe_params::{Gadget, GlweChoice, LweChoice, Params, is_glwe};
+use blind_rotate::BootKey;
+use fhe_params::{Gadget, GlweChoice, LweChoice, Params, is_glwe, is_params};
+use key_switch::SwitchKey;
 use lists::List;
 use lwe_core::{Big, Lwe, LweKey, Secret};
 use refusals::Refusal;
@@ -300,6 +302,101 @@ fn mismatches_of_keys(rt: HostRuntime) -> Result<(), Fail> {
         let head = head_of(rt.alloc(), digest, dim, 1, (0, 1))?;
         let (left, right) = sides;
         match key_fits(&[7; 32], &secret.big, &head) {
+            Err(Refusal::Fault(fault)) => {
+                assert_eq!(rt; fault, FileFault::Mismatch { left, right });
+            }
+            _ => assert!(rt; false, "no mismatch"),
+        }
+    }
+    Ok(())
+}
+
+// The header, two rows of a switch key, and two rows of a boot key.
+const EVAL: [u64; 17] = [
+    1, 1, 1, 1, 1, 10, 11, 12, 13, 20, 21, 22, 23, 24, 25, 26, 27,
+];
+
+const EVAL_SEAL: [u8; 32] = [
+    0x98, 0xb0, 0x79, 0x75, 0x9a, 0x68, 0xbf, 0x05, 0x05, 0xe2, 0x3e, 0x3e, 0x10, 0x75, 0x8c, 0x12,
+    0x38, 0x29, 0x9a, 0x86, 0x36, 0x4a, 0x0d, 0x89, 0xcd, 0xf1, 0x28, 0x50, 0x91, 0x81, 0x5e, 0xfb,
+];
+
+const TABLE_EVAL_SEAL: [u8; 32] = [
+    0x50, 0x3a, 0x48, 0x47, 0x16, 0x5d, 0x88, 0x91, 0x6c, 0x23, 0x73, 0xca, 0x8c, 0x4d, 0x14, 0x91,
+    0x23, 0xf9, 0xb8, 0x14, 0xbd, 0x03, 0xc2, 0x91, 0x1e, 0xfa, 0xd2, 0xfc, 0x4b, 0xc0, 0x69, 0x65,
+];
+
+#[test]
+fn eval_files(rt: HostRuntime) -> Result<(), Fail> {
+    laws::laws();
+    let bytes = made(rt.alloc(), FileKind::Eval, &SMALL_DIGEST, &EVAL)?;
+    assert_eq!(rt; bytes.len(), 208);
+    assert_eq!(rt; &bytes[176..], EVAL_SEAL.as_slice());
+    let (switch, boot) = read_eval(rt.alloc(), &bytes, &SMALL_DIGEST, &SMALL)?;
+    let printed = print_eval(rt.alloc(), &SMALL_DIGEST, &SMALL, &switch, &boot)?;
+    assert_eq!(rt; printed.as_slice(), bytes.as_slice());
+    Ok(())
+}
+
+#[test]
+fn an_eval_file_of_the_table(rt: HostRuntime) -> Result<(), Fail> {
+    let switch = SwitchKey::new(rt.alloc(), 256, 8, 4, 6)?;
+    let boot = BootKey::new(rt.alloc(), 1, 8, 8, 8, 4)?;
+    switch.known();
+    boot.known();
+    let mut bytes = print_eval(rt.alloc(), &TABLE_DIGEST, &TABLE, &switch, &boot)?;
+    assert_eq!(rt; bytes.len(), 372_848);
+    assert_eq!(rt; &bytes[372_816..], TABLE_EVAL_SEAL.as_slice());
+    bytes.truncate(372_847);
+    assert!(rt;
+        matches!(
+            read_eval(rt.alloc(), &bytes, &TABLE_DIGEST, &TABLE),
+            Err(Refusal::Fault(FileFault::Length {
+                want: 372_848,
+                have: 372_847
+            }))
+        )
+    );
+    Ok(())
+}
+
+#[test]
+fn mismatches_of_eval_files(rt: HostRuntime) -> Result<(), Fail> {
+    let bytes = made(rt.alloc(), FileKind::Eval, &SMALL_DIGEST, &EVAL)?;
+    for (digest, k, log_n, n, boot, switch, sides) in [
+        (TABLE_DIGEST, 2, 2, 2, 2, 2, (TABLE_DIGEST, SMALL_DIGEST)),
+        (SMALL_DIGEST, 2, 2, 2, 2, 2, (padded(2), padded(1))),
+        (SMALL_DIGEST, 1, 3, 2, 2, 2, (padded(3), padded(1))),
+        (SMALL_DIGEST, 1, 1, 4, 2, 2, (padded(4), padded(1))),
+        (SMALL_DIGEST, 1, 1, 1, 5, 2, (padded(5), padded(1))),
+        (SMALL_DIGEST, 1, 1, 1, 1, 6, (padded(6), padded(1))),
+    ] {
+        let params = Params {
+            glwe: GlweChoice {
+                k,
+                log_n,
+                ones: 0,
+                error: 0,
+            },
+            lwe: LweChoice {
+                n,
+                ones: 0,
+                error: 0,
+            },
+            boot: Gadget {
+                base: 1,
+                level: boot,
+            },
+            switch: Gadget {
+                base: 1,
+                level: switch,
+            },
+        };
+        let (left, right) = sides;
+        fhe_params::laws::laws();
+        let fits = is_params(&params);
+        assert!(rt; fits);
+        match read_eval(rt.alloc(), &bytes, &digest, &params) {
             Err(Refusal::Fault(fault)) => {
                 assert_eq!(rt; fault, FileFault::Mismatch { left, right });
             }
