@@ -1,0 +1,16 @@
+mod Solving
+mod Puts
+mod Following
+mod Looking
+mod Steps
+mod Small
+mod Walk
+mod Finding
+mod Values
+mod RuleKinds
+mod Messages
+mod Keeping
+mod KeepSteps
+mod Examples
+mod Shapes
+mod Worked
