@@ -1,0 +1,4 @@
+pub mod Sizes
+pub mod Ring
+pub mod Terms
+pub mod Values

@@ -1,0 +1,4 @@
+pub mod Forms
+pub mod Sound
+pub mod Merging
+pub mod Laws
