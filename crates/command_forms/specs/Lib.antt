@@ -1,0 +1,11 @@
+pub use Rattle.port_store.specs.Files
+pub use Rattle.port_store.specs.Faults
+pub mod Names
+pub mod StatusLine
+pub mod Outcome
+pub mod Refusals
+pub mod Outside
+pub mod Laws
+pub mod Steps
+pub mod StepLemmas
+pub mod LeaveLemmas
