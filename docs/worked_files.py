@@ -4,15 +4,17 @@
 Run `python3 docs/worked_files.py`: it prints, for the seed of 32 zero bytes and the parameters of the sum of two inputs
 (k 1, log_n 1, ones 1, error 3; n 1, ones 0, error 0; 1 digit of 1 bit), the bytes of the secret file with the big key
 (1, 0) and the small key (0), of the file of inputs for the values 1 and 2, and of the output for the ranges 0 to 3 and
-0 to 2.
+0 to 2. Then, of the same seed, how long the key files of both circuits are, and their seals: that of the sum, and a
+look-up with the parameters (k 1, log_n 3, ones 1, error 3; n 2, ones 1, error 3; 2 digits of 8 bits for both).
 """
 
 from hashlib import sha256
 
-from keys import row
+from keys import boot_row, row, secret_bits, switch_rows
 from streams import stream_key
 
 LINES = b"glwe 1 1 1 3\nlwe 1 0 0\nboot 1 1\nswitch 1 1\n"
+LOOK_LINES = b"glwe 1 3 1 3\nlwe 2 1 3\nboot 8 2\nswitch 8 2\n"
 BIG, SMALL = [1, 0], [0]
 
 
@@ -20,14 +22,18 @@ def field(number):
     return (number % (1 << 64)).to_bytes(8, "little")
 
 
-def sealed(magic, numbers):
-    body = magic + sha256(LINES).digest() + b"".join(map(field, numbers))
+def sealed(magic, numbers, lines=LINES):
+    body = magic + sha256(lines).digest() + b"".join(map(field, numbers))
     return body + sha256(body).digest()
 
 
 def shown(name, data):
     print(name, len(data))
     print(", ".join(map(str, data)))
+
+
+def told(name, data):
+    print(name, len(data), list(data[-32:]))
 
 
 def ciphertexts(ranges, rows):
@@ -42,6 +48,14 @@ def main():
     print(rows)
     shown("inputs", ciphertexts([(0, 1), (0, 2)], rows))
     shown("output", ciphertexts([(0, 3)], [(4, 7, 6917529027641081861)]))
+    seed = bytes(32)
+    keys = [secret_bits(seed, "fhec small", 1, 0), secret_bits(seed, "fhec big", 2, 1)]
+    told("secret keys of the sum", sealed(b"FHECSEC1", [1, 2] + keys[0] + keys[1]))
+    small, big = secret_bits(seed, "fhec small", 2, 1), secret_bits(seed, "fhec big", 8, 1)
+    told("secret keys of the look-up", sealed(b"FHECSEC1", [2, 8] + small + big, LOOK_LINES))
+    switch = [word for one in switch_rows(seed, big, small, 8, 2, 3) for word in one]
+    boot = [word for r in range(8) for part in boot_row(seed, big, small, 1, 8, 2, 3, r) for word in part]
+    told("evaluation keys of the look-up", sealed(b"FHECEVL1", [1, 3, 2, 2, 2] + switch + boot, LOOK_LINES))
     shown("narrow output", ciphertexts([(0, 2)], [(4, 7, 6917529027641081861)]))
 
 

@@ -1,3 +1,4 @@
 pub mod ValueLemmas
 pub mod KeyLemmas
 pub mod InputLemmas
+pub mod KeyFacts

@@ -1,3 +1,4 @@
 pub mod Words
 pub mod Decrypt
 pub mod Encrypt
+pub mod Keygen

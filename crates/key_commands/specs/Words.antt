@@ -1,8 +1,28 @@
 -- The words of the commands on keys.
-use Rattle.std.specs.Prelude.{List, [], ◌∷◌}
+use Rattle.std.specs.Prelude.{List, [], ◌∷◌, if◌then◌else◌}
 use Rattle.port_store.specs.Files.{Bytes}
+use Rattle.command_forms.specs.Names.{is_no_eval}
 use Rattle.key_commands.specs.declared.decrypt.DecryptNames.{DecryptNames}
 use Rattle.key_commands.specs.declared.encrypt.EncryptNames.{EncryptNames}
+use Rattle.key_commands.specs.declared.keygen.KeygenNames.{KeygenNames}
+
+-- those of `keygen CIRCUIT SEED SECRET EVAL`; the seed is the 32 bytes of its word
+pub record KeygenWords : Type 0 where
+  pub circuit : Bytes
+  pub seed : Bytes
+  pub secret : Bytes
+  pub eval : Bytes
+
+-- what names stand for
+abbrev pub keygen_view : KeygenNames → KeygenWords
+keygen_view names =
+    record { circuit = names.circuit.now; seed = names.seed; secret = names.secret.now; eval = names.eval.now }
+
+-- the files that `keygen` names; the word `-` for EVAL is no file
+abbrev pub keygen_files : KeygenWords → List Bytes
+keygen_files words =
+    if is_no_eval words.eval then words.circuit ∷ words.secret ∷ []
+    else words.circuit ∷ words.secret ∷ words.eval ∷ []
 
 -- those of `encrypt CIRCUIT SECRET SEED VALUES CIPHER`; the seed is the 32 bytes of its word
 pub record EncryptWords : Type 0 where

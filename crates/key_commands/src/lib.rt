@@ -6,6 +6,7 @@
 pub mod decrypt;
 pub mod encrypt;
 mod inputs;
+pub mod keygen;
 #[cfg(test)]
 mod tests;
 mod values;

@@ -2,6 +2,7 @@
 
 use crate::decrypt::{DecryptNames, decrypt};
 use crate::encrypt::{EncryptNames, encrypt};
+use crate::keygen::{KeygenNames, keygen};
 use command_forms::{FileFault, FileKind, Status, ValueKind};
 use port_store::{MemSink, MemStore};
 use std::alloc::{AllocError, Global};
@@ -163,5 +164,91 @@ fn encrypts(rt: HostRuntime) -> Result<(), Fail> {
     };
     assert_eq!(rt; encrypted(alloc, &mut other, "1\n3\n")?, outside);
     assert_eq!(rt; other.bytes("inputs"), None);
+    Ok(())
+}
+
+/// The circuit of a look-up of one bit.
+const LOOK_UP: &str = "fhec circuit 1
+width 1
+glwe 1 3 1 3
+lwe 2 1 3
+boot 8 2
+switch 8 2
+%0 = input 0 1
+%1 = switch %0
+%2 = boot %1 1 0
+out %2 0 1
+end
+";
+
+/// The seal of the secret keys that the seed of 32 zero bytes gives for the sum.
+#[rattlefmt::skip]
+const SUM_SEAL: [u8; 32] = [
+    117, 120, 19, 253, 225, 224, 48, 118, 169, 28, 130, 165, 38, 210, 107, 156,
+    245, 84, 242, 26, 0, 56, 129, 170, 58, 200, 170, 63, 109, 41, 161, 200,
+];
+
+/// The seal of those that it gives for the look-up.
+#[rattlefmt::skip]
+const LOOK_UP_SEAL: [u8; 32] = [
+    60, 177, 138, 208, 76, 87, 95, 135, 188, 194, 163, 56, 187, 70, 76, 167,
+    204, 7, 194, 222, 226, 125, 45, 17, 176, 0, 52, 221, 111, 43, 46, 239,
+];
+
+/// The seal of the evaluation keys of the look-up.
+#[rattlefmt::skip]
+const EVAL_SEAL: [u8; 32] = [
+    123, 211, 199, 192, 148, 48, 254, 236, 132, 222, 155, 55, 59, 165, 29, 238,
+    236, 206, 149, 177, 229, 117, 45, 77, 120, 83, 142, 110, 35, 198, 148, 156,
+];
+
+/// What `keygen` answers over a circuit, with the seed of 32 zero bytes and a name for EVAL.
+fn with_eval(alloc: Global, store: &mut MemStore, circuit: &str) -> Result<Status, AllocError> {
+    store.set("circuit", circuit.as_bytes())?;
+    let mut sink = MemSink::new(alloc);
+    let names = KeygenNames {
+        circuit: "circuit",
+        seed: [0; 32],
+        secret: "keys",
+        eval: "eval",
+    };
+    Ok(keygen(alloc, store, &mut sink, &names))
+}
+
+/// What `keygen` answers over a circuit, with the seed of 32 zero bytes and `-` for EVAL.
+fn without_eval(alloc: Global, store: &mut MemStore, circuit: &str) -> Result<Status, AllocError> {
+    store.set("circuit", circuit.as_bytes())?;
+    let mut sink = MemSink::new(alloc);
+    let names = KeygenNames {
+        circuit: "circuit",
+        seed: [0; 32],
+        secret: "keys",
+        eval: "-",
+    };
+    Ok(keygen(alloc, store, &mut sink, &names))
+}
+
+/// Whether the store has a file of so many bytes with this seal.
+fn holds(store: &MemStore, name: &str, size: usize, seal: &[u8]) -> bool {
+    match store.bytes(name) {
+        Some(bytes) => bytes.len() == size && bytes.ends_with(seal),
+        None => false,
+    }
+}
+
+#[test]
+fn makes_keys(rt: HostRuntime) -> Result<(), Fail> {
+    let alloc = rt.alloc();
+    let mut store = MemStore::new(alloc);
+    assert_eq!(rt; without_eval(alloc, &mut store, CIRCUIT)?, Status::Ok);
+    assert!(rt; holds(&store, "keys", 112, &SUM_SEAL));
+    assert_eq!(rt; store.bytes("-"), None);
+    assert_eq!(rt; with_eval(alloc, &mut store, LOOK_UP)?, Status::Ok);
+    assert!(rt; holds(&store, "keys", 168, &LOOK_UP_SEAL));
+    assert!(rt; holds(&store, "eval", 1520, &EVAL_SEAL));
+    let mut other = MemStore::new(alloc);
+    assert_eq!(rt; without_eval(alloc, &mut other, LOOK_UP)?, Status::Usage);
+    assert_eq!(rt; with_eval(alloc, &mut other, CIRCUIT)?, Status::Usage);
+    assert_eq!(rt; other.bytes("keys"), None);
     Ok(())
 }
