@@ -1,5 +1,10 @@
-pub mod CiphertextWords
-pub mod CiphertextPieces
-pub mod CiphertextLoop
-pub mod CiphertextTaken
-pub mod CiphertextAgain
+pub mod Places
+pub mod Pieces
+pub mod Written
+pub mod SecretTexts
+pub mod CipherTexts
+pub mod RangeMatches
+pub mod GlweRows
+pub mod BootPlaces
+pub mod EvalTexts
+pub mod EvalAgain

@@ -1,5 +1,4 @@
-pub mod Limits
-pub mod CiphertextFile
-pub mod CiphertextReading
-pub mod ParamsDigest
+pub mod SecretFile
+pub mod CipherFile
+pub mod EvalFile
 pub mod Laws

@@ -7,10 +7,10 @@ use lists::List;
 pub struct CipherHead {
     /// The digest of the parameters that the ciphertexts were made under.
     pub digest: [u8; 32],
-    /// The number of mask words of each ciphertext.
+    /// The number of mask words of each ciphertext, D.
     pub dim: u32,
-    /// The width in bits.
+    /// The width in bits, P.
     pub width: u32,
-    /// For each ciphertext the lowest and the highest number that it may stand for.
+    /// For each ciphertext the least and the greatest number that it may stand for.
     pub ranges: List<(i64, i64)>,
 }

@@ -1,33 +1,26 @@
-//! Files of ciphertexts: what they say of themselves, how they are read and how they are printed.
+//! The files of secret keys, of evaluation keys and of ciphertexts: reading them, writing them, and comparing what they
+//! say with what they are used with.
 //!
-//! A file is a head and a seal. Its numbers are words of eight bytes, the lowest first, and a signed
-//! number is its word modulo 2^64:
-//!
-//! - the magic `FHECCIP1`, 8 bytes;
-//! - the digest of the parameters, 32 bytes;
-//! - the dimension D (from 1 to the greatest dimension), the width P (from 1) and the number m of ciphertexts;
-//! - m ranges, each its lowest and its highest number, within the limits of inputs;
-//! - m ciphertexts, each of D mask words and a body;
-//! - the seal: the SHA-256 of all bytes before it, 32 bytes.
+//! Each is a sealed file (`sealed_files`): the magic of its kind, the digest of the parameters, words, and a seal. The
+//! words of a secret file are n, D, and the bits of the small key and of the big one; those of an evaluation file k,
+//! log_n, n and two levels, then the rows of the switch key and those of the boot key; those of a ciphertext file D, P,
+//! m, then m ranges and m ciphertexts.
 #![tactic(auto)]
 
-mod digest;
-mod fault;
+mod cipher;
+mod eval;
 mod head;
 pub mod laws;
-mod limits;
-mod printing;
-mod reading;
+mod matching;
+mod rows;
+mod secret;
 
-pub use digest::params_digest;
-pub use fault::{FileFault, FileRefusal};
+pub use cipher::{print_cipher, read_cipher};
+pub use eval::{print_eval, read_eval};
 pub use head::CipherHead;
-pub use limits::FILE_LIMIT;
-pub use printing::print_cipher;
-pub use reading::read_cipher;
-
-/// The first bytes of each file.
-const MAGIC: &[u8; 8] = b"FHECCIP1";
+pub use matching::{head_fits, key_fits, secret_fits};
+pub use sealed_files::{FILE_LIMIT, FileFault, FileKind, FileRefusal};
+pub use secret::{print_secret, read_secret};
 
 #[cfg(test)]
 mod tests;

@@ -4,7 +4,7 @@
 ghost use Rattle.std.specs.Prelude.{◌≡◌, IfOk};
 ghost use Rattle.circuit_digest.specs.ParamsDigest.{params_digest};
 
-use circuit_text::print_params;
+use circuit_file::print_params;
 use fhe_params::Params;
 use sha2::{Digest, Sha256};
 use std::alloc::{AllocError, Global};

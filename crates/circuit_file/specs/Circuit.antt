@@ -1,204 +1,96 @@
--- Circuits without a bootstrap: what they are, and the one text of each.
-use Rattle.std.specs.Prelude.{◌≡◌, ◌≢◌, ℕ, ◌+◌, ◌-◌, ◌*◌, ◌^◌, ◌<◌, ◌≤◌, nat_lt, List, [], ◌∷◌, ◌++◌, length, map, codes, All, Any, ℤ, pos, ◌+ℤ◌, ◌-ℤ◌, ◌*ℤ◌, ◌≤ℤ◌, int_lt, unsigned_abs, ◌⊎◌, if◌then◌else◌}
-use Rattle.std.specs.List.{flat_map, sum_by, slice_index_or}
-use Rattle.std.specs.Fmt.{decimal, signed_decimal}
-use Rattle.circuit_file.specs.declared.circuit.GlweChoice.{GlweChoice}
-use Rattle.circuit_file.specs.declared.circuit.LweChoice.{LweChoice}
-use Rattle.circuit_file.specs.declared.circuit.Gadget.{Gadget}
-use Rattle.circuit_file.specs.declared.circuit.Params.{Params}
-use Rattle.circuit_file.specs.declared.circuit.Range.{Range}
-use Rattle.circuit_file.specs.declared.circuit.Term.{Term}
-use Rattle.circuit_file.specs.declared.circuit.WeightedSum.{WeightedSum}
-use Rattle.circuit_file.specs.declared.circuit.Out.{Out}
-use Rattle.circuit_file.specs.declared.circuit.Circuit.{Circuit}
-use Rattle.circuit_file.specs.Limits.{most_polynomials, most_log_n, most_small_dimension, error_limit, most_base, most_digit_bits, most_width, bound_limit, most_inputs, most_sums, most_outs, most_weight, most_constant}
-use Rattle.circuit_file.specs.Ranges.{IsInputRange}
+-- The whole text: its circuit, or the first fault in the order of the kinds.
+use Rattle.std.specs.Prelude.{ℕ, zero, suc, ◌+◌, nat_lt, ◌&&◌, Bool, false, List, [], ◌∷◌, ◌++◌, length, map, Option, Some, None, Ok, Err, ℤ, unsigned_abs, if◌then◌else◌}
+use Rattle.std.specs.List.{enumerate_from}
+use Rattle.refusals.specs.Reading.{◌>>=◌, unless}
+use Rattle.ir_core.specs.Graph.{Operations}
+use Rattle.fhe_params.specs.declared.params.Params.{Params}
+use Rattle.tfhe_level.specs.declared.level.TfheOp.{TfheOp}
+use Rattle.tfhe_level.specs.declared.shape.Shape.{Shape}
+use Rattle.tfhe_level.specs.declared.shape.Circuit.{Circuit}
+use Rattle.tfhe_level.specs.Operations.{is_boot, is_out}
+use Rattle.tfhe_level.specs.Nodes.{nodes_of}
+use Rattle.tfhe_level.specs.Rules.{message_ranges}
+use Rattle.noise_model.specs.declared.constraints.Constraint.{Constraint}
+use Rattle.noise_model.specs.declared.constraints.Constraint.TheVariants.{Size, Boot as AtBoot, Result as AtResult}
+use Rattle.noise_model.specs.declared.constraints.Broken.{Broken}
+use Rattle.noise_model.specs.Constraints.{first_broken_of}
+use Rattle.circuit_lines.specs.Lines.{Lines}
+use Rattle.circuit_lines.specs.Reading.{lines_of}
+use Rattle.circuit_nodes.specs.Tests.{is_least_width}
+use Rattle.circuit_nodes.specs.Lines.{op_of, broken_line}
+use Rattle.circuit_file.specs.declared.fault.CircuitKind.TheVariants.{Node, Width, Constraint as ConstraintKind}
+use Rattle.circuit_file.specs.Faults.{Read, fault_at, as_spelling}
+use Rattle.circuit_file.specs.Params.{is_natural, params_of}
 
--- the dimension of big ciphertexts: the coefficients of k polynomials
-abbrev pub dimension : Params → ℕ
-dimension p = p.glwe.k * 2 ^ p.glwe.log_n
+-- ---- nodes and outs
 
--- ---- nodes: the inputs are numbered first, and then the sums
+-- the line of the first node
+abbrev pub first_node : ℕ
+first_node = 7
 
--- how many nodes there are
-abbrev pub node_count : Circuit → ℕ
-node_count c = length c.inputs + length c.sums
+-- all is kept, or the fault of the first line that is not
+abbrev pub no_broken_line : Option ℕ → Read (Unit {0})
+no_broken_line None = Ok tt
+no_broken_line (Some place) = Err (fault_at (first_node + place) Node)
 
--- the sum at a node that is no input
-abbrev pub sum_at : Circuit → ℕ → WeightedSum
-sum_at c node = slice_index_or c.sums (node - length c.inputs) (record { constant = pos 0; terms = [] })
+-- the operations of the lines, which keep their rules, with an out: else the fault at the first line that breaks one,
+-- or at that of the end
+unfoldable pub operations_of : Lines → Read (List TfheOp)
+operations_of lines = do
+  kept ← no_broken_line (broken_line (lines.nodes ++ lines.outs))
+  some ← unless (nat_lt 0 (length lines.outs)) (fault_at (first_node + length lines.nodes) Node)
+  Ok (map op_of (lines.nodes ++ lines.outs))
 
--- the range of an input
-abbrev pub input_range : List Range → ℕ → Range
-input_range inputs node = slice_index_or inputs node (record { lo = pos 0; hi = pos 0 })
+-- ---- the width
 
--- the sum of these numbers
-abbrev pub int_sum : List ℤ → ℤ
-int_sum [] = pos 0
-int_sum (z ∷ zs) = z +ℤ int_sum zs
+-- a width as it is written is the least that holds these operations
+abbrev pub is_width : List TfheOp → ℤ → Bool
+is_width operations width = is_natural width && is_least_width (message_ranges operations) (unsigned_abs width)
 
--- the least value of a term: its weight times the end of the input's range that the weight's sign calls for
-abbrev pub least_of : List Range → Term → ℤ
-least_of inputs t = t.weight *ℤ (if int_lt t.weight (pos 0) then (input_range inputs t.node).hi else (input_range inputs t.node).lo)
+-- ---- the constraints
 
--- the greatest value of a term
-abbrev pub greatest_of : List Range → Term → ℤ
-greatest_of inputs t = t.weight *ℤ (if int_lt t.weight (pos 0) then (input_range inputs t.node).lo else (input_range inputs t.node).hi)
+-- an operation of the kind that a constraint is on
+abbrev pub is_on : Constraint → TfheOp → Bool
+is_on Size op = false
+is_on (AtBoot count) op = is_boot op
+is_on (AtResult count) op = is_out op
 
--- the range of a sum: the constant and the ends of its terms
-abbrev pub range_of_sum : List Range → WeightedSum → Range
-range_of_sum inputs s = record { lo = s.constant +ℤ int_sum (map (least_of inputs) s.terms); hi = s.constant +ℤ int_sum (map (greatest_of inputs) s.terms) }
+-- the place of the operation with a number, counted over those of a kind from 0
+abbrev pub place_among : (TfheOp → Bool) → List TfheOp → ℕ → ℕ
+place_among kind [] count = 0
+place_among kind (op ∷ operations) zero = if kind op then 0 else suc (place_among kind operations zero)
+place_among kind (op ∷ operations) (suc count) =
+    if kind op then suc (place_among kind operations count) else suc (place_among kind operations (suc count))
 
--- the range of a node
-abbrev pub range_of_node : Circuit → ℕ → Range
-range_of_node c node = if nat_lt node (length c.inputs) then input_range c.inputs node else range_of_sum c.inputs (sum_at c node)
+-- the line of a constraint: the ring's parameters for the size of keys, and else that of the bootstrap or the out
+abbrev pub line_of : List TfheOp → Constraint → ℕ
+line_of operations Size = 3
+line_of operations (AtBoot count) = first_node + place_among is_boot operations count
+line_of operations (AtResult count) = first_node + place_among is_out operations count
 
--- the noise bound of a sum: the size of each weight times the bound of a fresh input (worst cases; Bergerat et al. 2023 take variances)
-abbrev pub bound_of_sum : Params → WeightedSum → ℕ
-bound_of_sum p s = sum_by (λ t. unsigned_abs t.weight * p.glwe.error) s.terms
+-- all constraints are met, or the fault of the first that is not
+abbrev pub no_constraint : List TfheOp → Option Broken → Read (Unit {0})
+no_constraint operations None = Ok tt
+no_constraint operations (Some broken) =
+    Err (fault_at (line_of operations broken.at) (ConstraintKind broken.bound broken.limit))
 
--- the noise bound of a node
-abbrev pub bound_of_node : Circuit → ℕ → ℕ
-bound_of_node c node = if nat_lt node (length c.inputs) then c.params.glwe.error else bound_of_sum c.params (sum_at c node)
+-- ---- the whole
 
--- ---- the text
+-- the graph of operations whose numbers are their places
+abbrev pub graph_of : List TfheOp → Operations TfheOp
+graph_of operations = record { list = enumerate_from 0 operations; made = length operations }
 
--- a line feed
-abbrev pub line_feed : List ℕ
-line_feed = 10 ∷ []
+-- the circuit of operations, a width and parameters
+abbrev pub made : List TfheOp → ℕ → Params → Circuit
+made operations width params = record { shape = record { graph = graph_of operations; width = width }; params = params }
 
--- the parameter line of the ring
-abbrev pub glwe_line : GlweChoice → List ℕ
-glwe_line g = codes "glwe " ++ (decimal g.k ++ (codes " " ++ (decimal g.log_n ++ (codes " " ++ (decimal g.ones ++ (codes " " ++ (decimal g.error ++ line_feed)))))))
-
--- the parameter line of small ciphertexts
-abbrev pub lwe_line : LweChoice → List ℕ
-lwe_line l = codes "lwe " ++ (decimal l.n ++ (codes " " ++ (decimal l.ones ++ (codes " " ++ (decimal l.error ++ line_feed)))))
-
--- a parameter line of digits
-abbrev pub gadget_line : List ℕ → Gadget → List ℕ
-gadget_line name g = name ++ (decimal g.base ++ (codes " " ++ (decimal g.level ++ line_feed)))
-
--- the four parameter lines
-abbrev pub params_text : Params → List ℕ
-params_text p = glwe_line p.glwe ++ (lwe_line p.lwe ++ (gadget_line (codes "boot ") p.boot ++ gadget_line (codes "switch ") p.switch))
-
--- a line of a node or of an output that ends in a range
-abbrev pub range_line : List ℕ → Range → List ℕ
-range_line words r = words ++ (signed_decimal r.lo ++ (codes " " ++ (signed_decimal r.hi ++ line_feed)))
-
--- the line of the input with this number
-abbrev pub input_line : ℕ → Range → List ℕ
-input_line node r = codes "%" ++ (decimal node ++ range_line (codes " = input ") r)
-
--- the lines of the inputs, numbered from this number on
-abbrev pub input_lines : ℕ → List Range → List ℕ
-input_lines node [] = []
-input_lines node (r ∷ rs) = input_line node r ++ input_lines (node + 1) rs
-
--- a term of a sum
-abbrev pub term_text : Term → List ℕ
-term_text t = codes " " ++ (signed_decimal t.weight ++ (codes " %" ++ decimal t.node))
-
--- the line of the sum with this number
-abbrev pub sum_line : ℕ → WeightedSum → List ℕ
-sum_line node s = codes "%" ++ (decimal node ++ (codes " = lin " ++ (signed_decimal s.constant ++ (flat_map term_text s.terms ++ line_feed))))
-
--- the lines of the sums, numbered from this number on
-abbrev pub sum_lines : ℕ → List WeightedSum → List ℕ
-sum_lines node [] = []
-sum_lines node (s ∷ ss) = sum_line node s ++ sum_lines (node + 1) ss
-
--- the line of an output
-abbrev pub out_line : Out → List ℕ
-out_line o = codes "out %" ++ (decimal o.node ++ range_line (codes " ") o.range)
-
--- the one text of a circuit
-abbrev pub circuit_text : Circuit → List ℕ
-circuit_text c =
-    (codes "fhec circuit 1" ++ line_feed)
-    ++ ((codes "width " ++ (decimal c.width ++ line_feed))
-    ++ (params_text c.params
-    ++ (input_lines 0 c.inputs
-    ++ (sum_lines (length c.inputs) c.sums
-    ++ (flat_map out_line c.outs
-    ++ (codes "end" ++ line_feed))))))
-
--- ---- the rules
-
--- the parameter line of the ring keeps its limits
-pub record IsGlwe (g : GlweChoice) : Type 0 where
-  pub k_low : 1 ≤ g.k
-  pub k_high : g.k ≤ most_polynomials
-  pub log_n_low : 1 ≤ g.log_n
-  pub log_n_high : g.log_n ≤ most_log_n
-  pub ones : g.ones ≤ g.k * 2 ^ g.log_n
-  pub error : g.error < error_limit
-
--- the parameter line of small ciphertexts keeps its limits
-pub record IsLwe (l : LweChoice) : Type 0 where
-  pub n_low : 1 ≤ l.n
-  pub n_high : l.n ≤ most_small_dimension
-  pub ones : l.ones ≤ l.n
-  pub error : l.error < error_limit
-
--- a parameter line of digits keeps its limits
-pub record IsGadget (g : Gadget) : Type 0 where
-  pub base_low : 1 ≤ g.base
-  pub base_high : g.base ≤ most_base
-  pub level_low : 1 ≤ g.level
-  pub bits : g.base * g.level ≤ most_digit_bits
-
--- the four parameter lines keep their limits
-pub record IsParams (p : Params) : Type 0 where
-  pub glwe : IsGlwe p.glwe
-  pub lwe : IsLwe p.lwe
-  pub boot : IsGadget p.boot
-  pub switch : IsGadget p.switch
-
--- the range of an input or of an output
-abbrev pub IsRange : Range → Type 0
-IsRange r = IsInputRange r.lo r.hi
-
--- a term of a sum over so many inputs: on one of them, with a weight that is not 0 and within its limit
-pub record IsTerm (inputs : ℕ) (t : Term) : Type 0 where
-  pub node : t.node < inputs
-  pub weight : t.weight ≢ pos 0
-  pub size : unsigned_abs t.weight ≤ most_weight
-
--- the terms rise in their nodes, from this number on
-abbrev pub AreRising : ℕ → List Term → Type 0
-AreRising low [] = Unit {0}
-AreRising low (t ∷ ts) = (low ≤ t.node) × AreRising (t.node + 1) ts
-
--- a sum over so many inputs: a constant within its limit, and terms that rise
-pub record IsSum (inputs : ℕ) (s : WeightedSum) : Type 0 where
-  pub constant : unsigned_abs s.constant ≤ most_constant
-  pub terms : All (IsTerm inputs) s.terms
-  pub rising : AreRising 0 s.terms
-
--- hi - lo of a range
-abbrev pub span_of : Range → ℤ
-span_of r = r.hi -ℤ r.lo
-
--- an output is a node's, has its range, and the node's bound is below its limit
-pub record IsOut (c : Circuit) (o : Out) : Type 0 where
-  pub node : o.node < node_count c
-  pub same : o.range ≡ range_of_node c o.node
-  pub range : IsRange o.range
-  pub span : span_of o.range ≤ℤ pos (2 ^ c.width - 1)
-  pub bound : bound_of_node c o.node < bound_limit c.width
-
--- the rules of a circuit: limits, ranges, sums, outputs, and the least width from 1 that every output's range fits
-pub record IsCircuit (c : Circuit) : Type 0 where
-  pub params : IsParams c.params
-  pub width_low : 1 ≤ c.width
-  pub width_high : c.width ≤ most_width
-  pub input_number : length c.inputs ≤ most_inputs
-  pub inputs : All IsRange c.inputs
-  pub sum_number : length c.sums ≤ most_sums
-  pub sums : All (IsSum (length c.inputs)) c.sums
-  pub out_low : 1 ≤ length c.outs
-  pub out_high : length c.outs ≤ most_outs
-  pub outs : All (IsOut c) c.outs
-  pub least : (c.width ≡ 1) ⊎ Any (λ o. pos (2 ^ (c.width - 1)) ≤ℤ span_of o.range) c.outs
+-- the circuit that a text spells, or its first fault: spelling goes before parameters, then nodes, the width, and the
+-- constraints
+unfoldable pub circuit_of : List ℕ → Read Circuit
+circuit_of bytes = do
+  lines ← as_spelling (lines_of bytes)
+  params ← params_of lines.head
+  operations ← operations_of lines
+  width ← unless (is_width operations lines.head.width) (fault_at 2 Width)
+  let circuit : Circuit = made operations (unsigned_abs lines.head.width) params in
+      no_constraint operations (first_broken_of params circuit.shape) >>= λ met. Ok circuit

@@ -1,7 +1,9 @@
 pub mod Limits
-pub mod Ranges
-pub mod Reading
-pub mod Numbers
+pub mod Faults
+pub mod Params
+pub mod Fitting
 pub mod Circuit
-pub mod CircuitReading
+pub mod Walks
+pub mod Steps
+pub mod Text
 pub mod Laws

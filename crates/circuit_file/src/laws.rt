@@ -1,10 +1,16 @@
 //! The laws of circuits and of their texts, as a contract that a proof may call for.
 
-ghost use Rattle.circuit_file.specs.Laws.{CircuitTextLaws, InputRangeLaws};
+ghost use Rattle.circuit_file.specs.Laws.{CircuitTextLaws};
 
-/// All laws of circuits. The texts that are read are the circuit texts, and each is read as its circuit.
+/// The texts that are read are the circuit texts, and each is read as its circuit.
 #[inline]
 pub fn laws()
-    ensures texts { CircuitTextLaws }
-    ensures ranges { InputRangeLaws }
-{}
+    ensures { CircuitTextLaws }
+{
+    fhe_params::laws::laws();
+    forms::laws::laws();
+    tfhe_level::laws::laws();
+    noise_model::laws::laws();
+    circuit_lines::laws::laws();
+    circuit_nodes::laws::laws();
+}

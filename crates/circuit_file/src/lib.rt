@@ -1,25 +1,16 @@
-//! Circuits without a bootstrap, and the one text of each: reading it and writing it.
+//! Circuits and the one text of each: reading it, with the place and the kind of what refuses it, and writing it.
 #![tactic(auto)]
 
-mod circuit;
 mod fault;
 pub mod laws;
-mod limits;
-mod lines;
 mod params;
+mod places;
 mod printing;
-mod ranges;
 mod reader;
-mod reading;
-mod results;
+mod walks;
 
-pub use circuit::{
-    Circuit, Gadget, GlweChoice, LweChoice, Out, Params, Range, Term, WeightedSum, dimension,
-};
 pub use fault::{CircuitFault, CircuitKind, CircuitRefusal};
-pub use limits::{CIRCUIT_LIMIT, MOST_DIMENSION, MOST_WIDTH};
 pub use printing::{print_circuit, print_params};
-pub use ranges::is_input_range;
 pub use reader::read_circuit;
 
 #[cfg(test)]

@@ -1,89 +1,131 @@
-//! The lines before the nodes: the width and the parameters.
+//! The parameter lines.
 
+ghost use Rattle.std.specs.Prelude.{◌≡◌, ◌≤◌, ◌<◌, ◌^◌, IfOk, Some, None, if◌then◌else◌};
 ghost use Rattle.refusals.specs.Reading.{Gives};
-ghost use Rattle.circuit_file.specs.CircuitReading.{glwe_at, lwe_at, gadget_at, params_at, head_at};
+ghost use Rattle.fhe_params.specs.Params.{IsParams};
+ghost use Rattle.circuit_file.specs.Params.{glwe_choice, is_glwe_line, lwe_choice, is_lwe_line, gadget, is_gadget_line, on_line, params_of};
+ghost use Rattle.circuit_file.specs.Fitting.{fits_bits, fits_glwe, fits_lwe, fits_gadget};
 
-use crate::circuit::{Gadget, GlweChoice, LweChoice, Params};
-use crate::fault::CircuitRefusal;
-use crate::limits::{
-    MOST_BASE, MOST_DIGIT_BITS, MOST_ERROR, MOST_LOG_N, MOST_POLYNOMIALS, MOST_SMALL_DIMENSION,
-    MOST_WIDTH,
-};
-use crate::reading::{Read, literal_at, natural_field_at};
+use crate::fault::{CircuitFault, CircuitKind, CircuitRefusal};
+use circuit_lines::{GadgetNumbers, GlweNumbers, Head, LweNumbers};
+use fhe_params::{Gadget, GlweChoice, LweChoice, Params, is_gadget, is_glwe, is_lwe};
+use refusals::Refusal;
 
-#[tactic(auto, unfolding(crate::specs::CircuitReading::glwe_at))]
-fn glwe_at(bytes: &[u8]) -> Read<'_, GlweChoice>
-    ensures { Gives (λ x. (x.0, x.1.now)) result (glwe_at bytes.now) }
+/// Whether a number is not below 0, and so many bits hold it.
+fn fits_bits(bits: u32, number: i128) -> bool
+    requires { bits ≤ 64 }
+    ensures { result ≡ fits_bits bits number }
 {
-    let (k, rest) = natural_field_at(bytes, b"glwe ", 1, MOST_POLYNOMIALS)?;
-    let (log_n, rest) = natural_field_at(rest, b" ", 1, MOST_LOG_N)?;
-    let (ones, rest) = natural_field_at(rest, b" ", 0, k * (1 << log_n))?;
-    let (error, rest) = natural_field_at(rest, b" ", 0, MOST_ERROR)?;
-    let rest = literal_at(rest, b"\n")?;
+    0 <= number && number < 1 << bits
+}
+
+fn fits_glwe(numbers: &GlweNumbers) -> bool
+    ensures { result ≡ fits_glwe numbers.now }
+{
+    fits_bits(32, numbers.k)
+        && fits_bits(32, numbers.log_n)
+        && fits_bits(63, numbers.ones)
+        && fits_bits(63, numbers.error)
+}
+
+fn fits_lwe(numbers: &LweNumbers) -> bool
+    ensures { result ≡ fits_lwe numbers.now }
+{
+    fits_bits(32, numbers.n) && fits_bits(63, numbers.ones) && fits_bits(63, numbers.error)
+}
+
+fn fits_gadget(numbers: &GadgetNumbers) -> bool
+    ensures { result ≡ fits_gadget numbers.now }
+{
+    fits_bits(32, numbers.base) && fits_bits(32, numbers.level)
+}
+
+/// The parameters of the ring, where they are within their limits.
+#[tactic(auto, using(crate::proofs::Limits::glwe_by_fit))]
+fn glwe_of(numbers: &GlweNumbers) -> Option<GlweChoice>
+    ensures { result ≡ (if is_glwe_line numbers.now then Some (glwe_choice numbers.now) else None) }
+{
+    if !fits_glwe(numbers) {
+        return None;
+    }
     let glwe = GlweChoice {
-        k: k as u32,
-        log_n: log_n as u32,
-        ones,
-        error,
+        k: numbers.k as u32,
+        log_n: numbers.log_n as u32,
+        ones: numbers.ones as u64,
+        error: numbers.error as u64,
     };
-    Ok((glwe, rest))
+    if is_glwe(&glwe) { Some(glwe) } else { None }
 }
 
-#[tactic(auto, unfolding(crate::specs::CircuitReading::lwe_at))]
-fn lwe_at(bytes: &[u8]) -> Read<'_, LweChoice>
-    ensures { Gives (λ x. (x.0, x.1.now)) result (lwe_at bytes.now) }
+/// The parameters of small ciphertexts, where they are within their limits.
+#[tactic(auto, using(crate::proofs::Limits::lwe_by_fit))]
+fn lwe_of(numbers: &LweNumbers) -> Option<LweChoice>
+    ensures { result ≡ (if is_lwe_line numbers.now then Some (lwe_choice numbers.now) else None) }
 {
-    let (n, rest) = natural_field_at(bytes, b"lwe ", 1, MOST_SMALL_DIMENSION)?;
-    let (ones, rest) = natural_field_at(rest, b" ", 0, n)?;
-    let (error, rest) = natural_field_at(rest, b" ", 0, MOST_ERROR)?;
-    let rest = literal_at(rest, b"\n")?;
+    if !fits_lwe(numbers) {
+        return None;
+    }
     let lwe = LweChoice {
-        n: n as u32,
-        ones,
-        error,
+        n: numbers.n as u32,
+        ones: numbers.ones as u64,
+        error: numbers.error as u64,
     };
-    Ok((lwe, rest))
+    if is_lwe(&lwe) { Some(lwe) } else { None }
 }
 
-#[tactic(auto, unfolding(crate::specs::CircuitReading::gadget_at))]
-fn gadget_at<'a>(bytes: &'a [u8], name: &[u8]) -> Read<'a, Gadget>
-    ensures { Gives (λ x. (x.0, x.1.now)) result (gadget_at name.now bytes.now) }
+/// A cut into digits, where it is within its limits.
+#[tactic(auto, using(crate::proofs::Limits::gadget_by_fit))]
+fn gadget_of(numbers: &GadgetNumbers) -> Option<Gadget>
+    ensures { result ≡ (if is_gadget_line numbers.now then Some (gadget numbers.now) else None) }
 {
-    let (base, rest) = natural_field_at(bytes, name, 1, MOST_BASE)?;
-    let (level, rest) = natural_field_at(rest, b" ", 1, MOST_DIGIT_BITS / base)?;
-    let rest = literal_at(rest, b"\n")?;
+    if !fits_gadget(numbers) {
+        return None;
+    }
     let gadget = Gadget {
-        base: base as u32,
-        level: level as u32,
+        base: numbers.base as u32,
+        level: numbers.level as u32,
     };
-    Ok((gadget, rest))
+    if is_gadget(&gadget) {
+        Some(gadget)
+    } else {
+        None
+    }
 }
 
-#[tactic(auto, unfolding(crate::specs::CircuitReading::params_at))]
-fn params_at(bytes: &[u8]) -> Read<'_, Params>
-    ensures { Gives (λ x. (x.0, x.1.now)) result (params_at bytes.now) }
+/// What stands on a parameter line, or the fault of the line.
+fn on_line<T>(line: u32, found: Option<T>) -> Result<T, CircuitRefusal>
+    ensures { Gives (λ x. x) result (on_line line found) }
 {
-    let (glwe, rest) = glwe_at(bytes)?;
-    let (lwe, rest) = lwe_at(rest)?;
-    let (boot, rest) = gadget_at(rest, b"boot ")?;
-    let (switch, rest) = gadget_at(rest, b"switch ")?;
-    let params = Params {
+    match found {
+        Some(value) => Ok(value),
+        None => Err(Refusal::Fault(CircuitFault {
+            line,
+            kind: CircuitKind::Params,
+        })),
+    }
+}
+
+#[tactic(auto, unfolding(crate::specs::Params::params_of))]
+fn params_in(head: &Head) -> Result<Params, CircuitRefusal>
+    ensures { Gives (λ x. x) result (params_of head.now) }
+{
+    let glwe = on_line(3, glwe_of(&head.glwe))?;
+    let lwe = on_line(4, lwe_of(&head.lwe))?;
+    let boot = on_line(5, gadget_of(&head.boot))?;
+    let switch = on_line(6, gadget_of(&head.switch))?;
+    Ok(Params {
         glwe,
         lwe,
         boot,
         switch,
-    };
-    Ok((params, rest))
+    })
 }
 
-/// The width and the parameters.
-#[tactic(auto, unfolding(crate::specs::CircuitReading::head_at))]
-pub fn head_at(bytes: &[u8]) -> Result<(u32, Params, &[u8]), CircuitRefusal>
-    ensures { Gives (λ x. (x.0, x.1, x.2.now)) result (head_at bytes.now) }
+/// The parameters of the four lines, which keep their limits.
+pub(crate) fn params_of(head: &Head) -> Result<Params, CircuitRefusal>
+    ensures exact { Gives (λ x. x) result (params_of head.now) }
+    ensures limits { IfOk result IsParams }
 {
-    let rest = literal_at(bytes, b"fhec circuit 1\n")?;
-    let (width, rest) = natural_field_at(rest, b"width ", 1, MOST_WIDTH)?;
-    let rest = literal_at(rest, b"\n")?;
-    let (params, rest) = params_at(rest)?;
-    Ok((width as u32, params, rest))
+    fhe_params::laws::laws();
+    params_in(head)
 }

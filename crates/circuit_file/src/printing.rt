@@ -1,20 +1,23 @@
 //! Writing a circuit as its text.
 
-ghost use Rattle.std.specs.Prelude.{◌≡◌, ◌++◌, ◌+◌, ◌<◌, ◌≤◌, ◌^◌, length, codes, OnOk, IfOk};
+ghost use Rattle.std.specs.Prelude.{◌≡◌, ◌++◌, ◌+◌, ◌<◌, ◌≤◌, ◌^◌, length, map, pos, OnOk, IfOk};
 ghost use Rattle.std.specs.String.{string_bytes};
 ghost use Rattle.std.specs.List.{flat_map};
+ghost use Rattle.ir_core.specs.Placed.{IsPlaced};
+ghost use Rattle.tfhe_level.specs.Nodes.{nodes_of};
+ghost use Rattle.circuit_lines.specs.Lines.{glwe_line, lwe_line, gadget_line, term_text, entry_text, line_text};
 ghost use Rattle.circuit_file.specs.Limits.{circuit_limit};
-ghost use Rattle.circuit_file.specs.Circuit.{glwe_line, lwe_line, gadget_line, params_text, range_line, input_line, input_lines, term_text, sum_line, sum_lines, out_line, circuit_text, IsCircuit};
+ghost use Rattle.noise_model.specs.Circuits.{IsCircuit};
+ghost use Rattle.circuit_file.specs.Text.{glwe_numbers, lwe_numbers, gadget_numbers, params_text, line_of_op, ops_text, circuit_text};
 
-use crate::circuit::{
-    Circuit, Gadget, GlweChoice, LweChoice, Out, Params, Range, Term, WeightedSum,
-};
 use crate::laws::laws;
+use fhe_params::{Gadget, GlweChoice, LweChoice, Params};
 use std::alloc::{AllocError, Global};
 use std::fmt::Write;
+use tfhe_level::{Circuit, Shape, TfheOp};
 
 fn put_glwe(text: &mut String, glwe: GlweChoice) -> Result<(), AllocError>
-    ensures { OnOk result (string_bytes text.new ≡ string_bytes text.old ++ glwe_line glwe) }
+    ensures { OnOk result (string_bytes text.new ≡ string_bytes text.old ++ glwe_line (glwe_numbers glwe)) }
 {
     let GlweChoice {
         k,
@@ -26,21 +29,22 @@ fn put_glwe(text: &mut String, glwe: GlweChoice) -> Result<(), AllocError>
 }
 
 fn put_lwe(text: &mut String, lwe: LweChoice) -> Result<(), AllocError>
-    ensures { OnOk result (string_bytes text.new ≡ string_bytes text.old ++ lwe_line lwe) }
+    ensures { OnOk result (string_bytes text.new ≡ string_bytes text.old ++ lwe_line (lwe_numbers lwe)) }
 {
     let LweChoice { n, ones, error } = lwe;
     write!(text, "lwe {n} {ones} {error}\n")
 }
 
 fn put_gadget(text: &mut String, name: &str, gadget: Gadget) -> Result<(), AllocError>
-    ensures { OnOk result (string_bytes text.new ≡ string_bytes text.old ++ gadget_line name.now gadget) }
+    ensures { OnOk result (string_bytes text.new ≡ string_bytes text.old ++ gadget_line name.now (gadget_numbers gadget)) }
 {
     let Gadget { base, level } = gadget;
     write!(text, "{name}{base} {level}\n")
 }
 
-fn put_params(text: &mut String, params: Params) -> Result<(), AllocError>
-    ensures { OnOk result (string_bytes text.new ≡ string_bytes text.old ++ params_text params) }
+#[tactic(auto, unfolding(crate::specs::Text::params_text))]
+fn put_params(text: &mut String, params: &Params) -> Result<(), AllocError>
+    ensures { OnOk result (string_bytes text.new ≡ string_bytes text.old ++ params_text params.now) }
 {
     put_glwe(text, params.glwe)?;
     put_lwe(text, params.lwe)?;
@@ -48,39 +52,17 @@ fn put_params(text: &mut String, params: Params) -> Result<(), AllocError>
     put_gadget(text, "switch ", params.switch)
 }
 
-/// A range behind these words, which end its line.
-fn put_range(text: &mut String, words: &str, range: Range) -> Result<(), AllocError>
-    ensures { OnOk result (string_bytes text.new ≡ string_bytes text.old ++ range_line words.now range) }
+/// A term: its weight, and the number of its operand.
+fn put_term(text: &mut String, term: (u32, i64)) -> Result<(), AllocError>
+    ensures { OnOk result (string_bytes text.new ≡ string_bytes text.old ++ term_text (pos term.0, term.1)) }
 {
-    let Range { lo, hi } = range;
-    write!(text, "{words}{lo} {hi}\n")
+    let (operand, weight) = term;
+    write!(text, " {weight} %{operand}")
 }
 
-fn put_input(text: &mut String, node: usize, range: Range) -> Result<(), AllocError>
-    ensures { OnOk result (string_bytes text.new ≡ string_bytes text.old ++ input_line node range) }
-{
-    write!(text, "%{node}")?;
-    put_range(text, " = input ", range)
-}
-
-fn put_inputs(text: &mut String, inputs: &[Range]) -> Result<(), AllocError>
-    ensures { OnOk result (string_bytes text.new ≡ string_bytes text.old ++ input_lines 0 inputs.now) }
-{
-    for (node, range) in inputs.iter().enumerate() {
-        put_input(text, node, *range)?;
-    }
-    Ok(())
-}
-
-fn put_term(text: &mut String, term: Term) -> Result<(), AllocError>
-    ensures { OnOk result (string_bytes text.new ≡ string_bytes text.old ++ term_text term) }
-{
-    let Term { weight, node } = term;
-    write!(text, " {weight} %{node}")
-}
-
-fn put_terms(text: &mut String, terms: &[Term]) -> Result<(), AllocError>
-    ensures { OnOk result (string_bytes text.new ≡ string_bytes text.old ++ flat_map term_text terms.now) }
+fn put_terms(text: &mut String, terms: &[(u32, i64)]) -> Result<(), AllocError>
+    ensures { OnOk result
+        (string_bytes text.new ≡ string_bytes text.old ++ flat_map term_text (map (λ t. (pos t.0, t.1)) terms.now)) }
 {
     for term in terms {
         put_term(text, *term)?;
@@ -88,39 +70,49 @@ fn put_terms(text: &mut String, terms: &[Term]) -> Result<(), AllocError>
     Ok(())
 }
 
-fn put_sum(text: &mut String, node: usize, sum: &WeightedSum) -> Result<(), AllocError>
-    ensures { OnOk result (string_bytes text.new ≡ string_bytes text.old ++ sum_line node sum.now) }
+fn put_entry(text: &mut String, entry: i64) -> Result<(), AllocError>
+    ensures { OnOk result (string_bytes text.new ≡ string_bytes text.old ++ entry_text entry) }
 {
-    let constant = sum.constant;
-    write!(text, "%{node} = lin {constant}")?;
-    put_terms(text, sum.terms.as_slice())?;
-    text.push_str("\n")
+    write!(text, " {entry}")
 }
 
-/// The lines of the sums behind so many inputs.
-fn put_sums(text: &mut String, inputs: usize, sums: &[WeightedSum]) -> Result<(), AllocError>
-    requires { inputs + length sums.now < 2 ^ 64 }
-    ensures { OnOk result (string_bytes text.new ≡ string_bytes text.old ++ sum_lines inputs sums.now) }
+fn put_entries(text: &mut String, entries: &[i64]) -> Result<(), AllocError>
+    ensures { OnOk result (string_bytes text.new ≡ string_bytes text.old ++ flat_map entry_text entries.now) }
 {
-    for (index, sum) in sums.iter().enumerate() {
-        put_sum(text, inputs + index, sum)?;
+    for entry in entries {
+        put_entry(text, *entry)?;
     }
     Ok(())
 }
 
-fn put_out(text: &mut String, out: Out) -> Result<(), AllocError>
-    ensures { OnOk result (string_bytes text.new ≡ string_bytes text.old ++ out_line out) }
+/// The line of an operation with this number.
+fn put_op(text: &mut String, number: u32, op: &TfheOp) -> Result<(), AllocError>
+    ensures { OnOk result (string_bytes text.new ≡ string_bytes text.old ++ line_text (line_of_op number op.now)) }
 {
-    let node = out.node;
-    write!(text, "out %{node}")?;
-    put_range(text, " ", out.range)
+    match op {
+        TfheOp::Input { lo, hi } => write!(text, "%{number} = input {lo} {hi}\n"),
+        TfheOp::Lin { constant, terms } => {
+            write!(text, "%{number} = lin {constant}")?;
+            put_terms(text, terms.as_slice())?;
+            text.push_str("\n")
+        }
+        TfheOp::Switch { source } => write!(text, "%{number} = switch %{source}\n"),
+        TfheOp::Boot { source, entries } => {
+            write!(text, "%{number} = boot %{source}")?;
+            put_entries(text, entries.as_slice())?;
+            text.push_str("\n")
+        }
+        TfheOp::Out { source, lo, hi } => write!(text, "out %{source} {lo} {hi}\n"),
+    }
 }
 
-fn put_outs(text: &mut String, outs: &[Out]) -> Result<(), AllocError>
-    ensures { OnOk result (string_bytes text.new ≡ string_bytes text.old ++ flat_map out_line outs.now) }
+/// The lines of all operations.
+fn put_ops(text: &mut String, shape: &Shape) -> Result<(), AllocError>
+    requires { IsPlaced shape.now.graph }
+    ensures { OnOk result (string_bytes text.new ≡ string_bytes text.old ++ ops_text 0 (nodes_of shape.now)) }
 {
-    for out in outs {
-        put_out(text, *out)?;
+    for number in 0..shape.node_count() {
+        put_op(text, number, shape.node(number))?;
     }
     Ok(())
 }
@@ -130,11 +122,26 @@ pub fn print_params(alloc: Global, params: &Params) -> Result<String, AllocError
     ensures { IfOk result (λ text. string_bytes text ≡ params_text params.now) }
 {
     let mut text = String::new(alloc);
-    put_params(&mut text, *params)?;
+    put_params(&mut text, params)?;
     Ok(text)
 }
 
-/// The one text of the circuit. It fails only for memory.
+/// The text of a circuit.
+#[tactic(auto, unfolding(crate::specs::Text::circuit_text, crate::specs::Text::params_text))]
+pub(crate) fn text_of(alloc: Global, circuit: &Circuit) -> Result<String, AllocError>
+    requires { IsPlaced circuit.now.shape.graph }
+    ensures { IfOk result (λ text. string_bytes text ≡ circuit_text circuit.now) }
+{
+    let mut text = String::from_str(alloc, "fhec circuit 1\n")?;
+    let width = circuit.shape.width;
+    write!(text, "width {width}\n")?;
+    put_params(&mut text, &circuit.params)?;
+    put_ops(&mut text, &circuit.shape)?;
+    text.push_str("end\n")?;
+    Ok(text)
+}
+
+/// The one text of a circuit, which has at most 2^27 bytes. It fails only for memory.
 pub fn print_circuit(alloc: Global, circuit: &Circuit) -> Result<Vec<u8>, AllocError>
     requires { IsCircuit circuit.now }
     ensures spelled { IfOk result (λ text. text.items ≡ circuit_text circuit.now) }
@@ -142,13 +149,6 @@ pub fn print_circuit(alloc: Global, circuit: &Circuit) -> Result<Vec<u8>, AllocE
     ensures size { IfOk result (λ text. length text.items ≤ circuit_limit) }
 {
     laws();
-    let mut text = String::from_str(alloc, "fhec circuit 1\n")?;
-    let width = circuit.width;
-    write!(text, "width {width}\n")?;
-    put_params(&mut text, circuit.params)?;
-    put_inputs(&mut text, circuit.inputs.as_slice())?;
-    put_sums(&mut text, circuit.inputs.len(), circuit.sums.as_slice())?;
-    put_outs(&mut text, circuit.outs.as_slice())?;
-    text.push_str("end\n")?;
+    let text = text_of(alloc, circuit)?;
     Ok(text.into_bytes())
 }

@@ -1,1 +1,3 @@
 pub mod RangesMore
+pub mod HeadLimits
+pub mod OutRanges

@@ -7,11 +7,12 @@ ghost use Rattle.ir_core.specs.Placed.{IsPlaced};
 ghost use Rattle.fhe_params.specs.Params.{IsGlwe};
 ghost use Rattle.circuit_heads.specs.Heads.{head_with, input_head, output_head};
 
+pub mod laws;
 mod ranges;
 
+use cipher_files::CipherHead;
 use circuit_digest::params_digest;
 use fhe_params::dimension;
-use key_files::CipherHead;
 use lists::List;
 use ranges::{input_ranges, out_ranges};
 use std::alloc::{AllocError, Global};

@@ -1,7 +1,7 @@
 //! The heads of the worked sum.
 
 use super::*;
-use circuit_text::read_circuit;
+use circuit_file::read_circuit;
 use std::test::Fail;
 
 /// The circuit that adds an input from 0 to 1 and one from 0 to 2.

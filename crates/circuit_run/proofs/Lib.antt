@@ -1,4 +1,12 @@
-pub mod EvaluationLemmas
-pub mod ClearRanges
-pub mod NodeNoise
-pub mod Examples
+pub mod Places
+pub mod Operands
+pub mod RoomRows
+pub mod Runs
+pub mod Ranges
+pub mod Constraints
+pub mod Ready
+pub mod Terms
+pub mod Stands
+pub mod OutNoise
+pub mod Sums
+pub mod OutLists

@@ -1,4 +1,5 @@
-pub use Rattle.lwe_core.specs.Encrypts
-pub mod Evaluation
-pub mod Clear
+pub mod Running
+pub mod Rooms
+pub mod Steps
 pub mod Noise
+pub mod Laws

@@ -1,11 +1,19 @@
-//! Running a circuit without a bootstrap on ciphertexts, and what its nodes stand for then.
+//! Running a circuit on ciphertexts, with key switches and bootstraps, and what its nodes stand for then.
 //!
-//! `evaluation` has the words of the outputs, and `laws` what they decrypt to.
+//! `room` has the room that a circuit is run in, `node` the ciphertext of a weighted sum, `step` one operation, `run` all
+//! of them, and `out_rows` gives copies of those of the outs; `laws` promises what they decrypt to. A run itself takes no
+//! memory.
 #![tactic(auto)]
 
-mod evaluation;
 pub mod laws;
+mod node;
+mod out_rows;
+mod room;
+mod run;
+mod step;
 #[cfg(test)]
 mod tests;
 
-pub use evaluation::outputs_of;
+pub use out_rows::outputs;
+pub use room::RunRoom;
+pub use run::{evaluate, input_count};

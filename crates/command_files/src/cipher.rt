@@ -2,13 +2,13 @@
 
 ghost use Rattle.std.specs.Prelude.{[], ◌∷◌, IfOk};
 ghost use Rattle.refusals.specs.Reading.{Gives};
-ghost use Rattle.key_files.specs.CipherFile.{file_of, IsCipherFile};
+ghost use Rattle.cipher_files.specs.CipherFile.{file_of, IsCipherFile};
 ghost use Rattle.command_forms.specs.Outside.{store_at};
 ghost use Rattle.command_forms.specs.Steps.{ReadsAs};
 ghost use Rattle.command_files.specs.Files.{cipher_in, cipher_from};
 
+use cipher_files::{CipherHead, FILE_LIMIT, read_cipher};
 use command_forms::{Fault, FileKind, StepRefusal, read_file};
-use key_files::{CipherHead, FILE_LIMIT, read_cipher};
 use lwe_core::{Big, Lwe};
 use port_store::Store;
 use refusals::Refusal;

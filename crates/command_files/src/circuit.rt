@@ -3,12 +3,12 @@
 ghost use Rattle.std.specs.Prelude.{◌≤◌, [], ◌∷◌, length, IfOk};
 ghost use Rattle.refusals.specs.Reading.{Gives};
 ghost use Rattle.noise_model.specs.Circuits.{IsCircuit};
-ghost use Rattle.circuit_text.specs.Limits.{circuit_limit};
+ghost use Rattle.circuit_file.specs.Limits.{circuit_limit};
 ghost use Rattle.command_forms.specs.Outside.{store_at};
 ghost use Rattle.command_forms.specs.Steps.{ReadsAs};
 ghost use Rattle.command_files.specs.Files.{circuit_in, circuit_from};
 
-use circuit_text::read_circuit;
+use circuit_file::read_circuit;
 use command_forms::{Fault, StepRefusal, read_file};
 use port_store::Store;
 use refusals::Refusal;

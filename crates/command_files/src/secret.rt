@@ -2,13 +2,13 @@
 
 ghost use Rattle.std.specs.Prelude.{◌<◌, [], ◌∷◌, All, IfOk};
 ghost use Rattle.refusals.specs.Reading.{Gives};
-ghost use Rattle.key_files.specs.SecretFile.{secret_file, IsSecretFile};
+ghost use Rattle.cipher_files.specs.SecretFile.{secret_file, IsSecretFile};
 ghost use Rattle.command_forms.specs.Outside.{store_at};
 ghost use Rattle.command_forms.specs.Steps.{ReadsAs};
 ghost use Rattle.command_files.specs.Files.{secret_in, secret_from};
 
+use cipher_files::{FILE_LIMIT, read_secret};
 use command_forms::{Fault, FileKind, StepRefusal, read_file};
-use key_files::{FILE_LIMIT, read_secret};
 use lwe_core::Secret;
 use port_store::Store;
 use refusals::Refusal;

@@ -9,3 +9,4 @@ pub mod Laws
 pub mod Steps
 pub mod StepLemmas
 pub mod LeaveLemmas
+pub mod DoneLemmas

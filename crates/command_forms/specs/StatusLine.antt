@@ -15,8 +15,8 @@ use Rattle.fhe_level.specs.declared.fault.LimitName.TheVariants as limit_name
 use Rattle.fhe_params.specs.declared.fault.TableFault.{TableFault}
 use Rattle.fhe_params.specs.declared.fault.TableFault.TheVariants as table_fault
 use Rattle.fhe_params.specs.Names.{name_of_list, name_of_field}
-use Rattle.circuit_text.specs.declared.fault.CircuitKind.{CircuitKind}
-use Rattle.circuit_text.specs.declared.fault.CircuitKind.TheVariants as circuit_kind
+use Rattle.circuit_file.specs.declared.fault.CircuitKind.{CircuitKind}
+use Rattle.circuit_file.specs.declared.fault.CircuitKind.TheVariants as circuit_kind
 use Rattle.sealed_files.specs.declared.kinds.FileKind.{FileKind}
 use Rattle.sealed_files.specs.declared.kinds.FileKind.TheVariants as file_kind
 use Rattle.sealed_files.specs.declared.fault.FileFault.{FileFault}
@@ -102,10 +102,6 @@ cert_word cert_file.Cert = codes "cert"
 cert_word cert_file.Circuit = codes "circuit"
 
 -- ---- lines
-
--- numbers and words, each behind a space
-abbrev pub and_number : ℕ → List ℕ
-and_number n = codes " " ++ decimal n
 
 -- what is wrong with a table
 abbrev pub table_line : TableFault → List ℕ

@@ -3,7 +3,7 @@
 ghost use Rattle.std.specs.Prelude.{◌≡◌};
 ghost use Rattle.command_forms.specs.Refusals.{step_refusal_of};
 
-use circuit_text::CircuitFault;
+use circuit_file::CircuitFault;
 use fhe_level::{LimitFault, TypeFault};
 use fhe_params::TableFault;
 use fhe_text::TextFault;

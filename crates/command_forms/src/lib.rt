@@ -14,7 +14,7 @@ mod names;
 mod status;
 mod status_line;
 
-pub use circuit_text::{CircuitFault, CircuitKind};
+pub use circuit_file::{CircuitFault, CircuitKind};
 pub use fault::{CertFile, Fault, StepRefusal};
 pub use fhe_level::{LimitFault, LimitName, TypeFault, TypeKind};
 pub use fhe_params::{FieldName, ListName, TableFault};

@@ -5,7 +5,7 @@ ghost use Rattle.command_forms.specs.Outcome.{answer_of};
 ghost use Rattle.command_forms.specs.Refusals.{status_of};
 
 use crate::fault::{CertFile, Fault, StepRefusal};
-use circuit_text::CircuitFault;
+use circuit_file::CircuitFault;
 use fhe_level::{LimitFault, TypeKind};
 use fhe_params::TableFault;
 use fhe_text::TextKind;

@@ -7,7 +7,7 @@ ghost use Rattle.command_forms.specs.StatusLine.{code_of, line_of, table_line, c
 
 use crate::fault::CertFile;
 use crate::status::Status;
-use circuit_text::{CircuitFault, CircuitKind};
+use circuit_file::{CircuitFault, CircuitKind};
 use fhe_level::{LimitName, TypeKind};
 use fhe_params::TableFault;
 use fhe_text::TextKind;

@@ -1,7 +1,1 @@
-pub mod StepLemmas
-pub mod ReadLemmas
-pub mod LeaveLemmas
-pub mod OutputLemmas
-pub mod HeadlineLemmas
-pub mod AnswerCauses
-pub mod WordLemmas
+pub mod Requests

@@ -1,15 +1,14 @@
 -- What the command line's types stand for.
-use Rattle.fhec_cmd.specs.declared.words.CommandLine.{CommandLine}
-use Rattle.fhec_cmd.specs.declared.words.CommandLine.TheVariants as line
-use Rattle.fhec_cmd.specs.declared.words.RunNames.{RunNames}
-use Rattle.fhec_cmd.specs.CommandLine.{RunWords, Request, faulty, run}
-
--- the words of `run`
-abbrev pub run_view : RunNames → RunWords
-run_view names =
-    record { circuit = names.circuit.now; eval = names.eval.now; cipher = names.cipher.now; output = names.output.now }
+use Rattle.key_commands.specs.Words.{keygen_view, encrypt_view, decrypt_view}
+use Rattle.run_command.specs.Words.{run_view}
+use Rattle.fhec_cmd.specs.declared.words.Request.{Request as Line}
+use Rattle.fhec_cmd.specs.declared.words.Request.TheVariants as line
+use Rattle.fhec_cmd.specs.CommandLine.{Request, faulty, keygen, encrypt, run, decrypt}
 
 -- the request of a command line
-abbrev pub request_view : CommandLine → Request
+abbrev pub request_view : Line → Request
 request_view line.Faulty = faulty
+request_view (line.Keygen names) = keygen (keygen_view names)
+request_view (line.Encrypt names) = encrypt (encrypt_view names)
 request_view (line.Run names) = run (run_view names)
+request_view (line.Decrypt names) = decrypt (decrypt_view names)

@@ -1,15 +1,21 @@
 -- What the words do: one case a command.
 use Rattle.std.specs.Prelude.{List}
 use Rattle.port_store.specs.Files.{Bytes, Files}
-use Rattle.fhec_cmd.specs.declared.status.Status.TheVariants as status
-use Rattle.fhec_cmd.specs.CommandLine.{Request, faulty, run, request_of}
-use Rattle.fhec_cmd.specs.Outcome.{Outcome, refusing}
-use Rattle.fhec_cmd.specs.Run.{run_outcome}
+use Rattle.command_forms.specs.declared.status.Status.TheVariants as status
+use Rattle.command_forms.specs.Outcome.{Outcome, refusing}
+use Rattle.key_commands.specs.Keygen.{keygen_outcome}
+use Rattle.key_commands.specs.Encrypt.{encrypt_outcome}
+use Rattle.key_commands.specs.Decrypt.{decrypt_outcome}
+use Rattle.run_command.specs.Run.{run_outcome}
+use Rattle.fhec_cmd.specs.CommandLine.{Request, faulty, keygen, encrypt, run, decrypt, request_of}
 
 -- what a command line does over the files
 abbrev pub outcome_of_request : Request → Files → Outcome
 outcome_of_request faulty files = refusing status.Usage
+outcome_of_request (keygen words) files = keygen_outcome words files
+outcome_of_request (encrypt words) files = encrypt_outcome words files
 outcome_of_request (run words) files = run_outcome words files
+outcome_of_request (decrypt words) files = decrypt_outcome words files
 
 -- what the words do over the files
 abbrev pub outcome_of : List Bytes → Files → Outcome

@@ -1,13 +1,9 @@
 pub use Rattle.port_store.specs.Files
 pub use Rattle.port_store.specs.Faults
+pub use Rattle.command_forms.specs.Outcome
+pub use Rattle.command_forms.specs.Outside
+pub mod Seed
 pub mod CommandLine
 pub mod CommandView
-pub mod StatusLine
-pub mod Outcome
-pub mod Refusals
-pub mod Run
 pub mod Commands
-pub mod Outside
 pub mod Headline
-pub mod Laws
-pub mod Steps

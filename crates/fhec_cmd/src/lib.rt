@@ -1,27 +1,30 @@
 //! The commands of fhec over a store of files and a sink of bytes.
+//!
+//! One call does the command that its words are. What it answers and leaves is one function of the words and the files
+//! (`outcome_of`), and what a run writes decrypts to the values of its circuit (the headline).
 #![tactic(auto)]
 
 ghost use Rattle.std.specs.Prelude.{◌≡◌, map};
 ghost use Rattle.std.specs.String.{string_bytes};
+ghost use Rattle.command_forms.specs.Outside.{MayLeave, outside, store_at};
 ghost use Rattle.fhec_cmd.specs.CommandLine.{request_of, faulty};
 ghost use Rattle.fhec_cmd.specs.Commands.{outcome_of};
 ghost use Rattle.fhec_cmd.specs.Headline.{Headline};
-ghost use Rattle.fhec_cmd.specs.Outside.{MayLeave, outside, store_at};
 
-mod commands;
-mod fault;
-pub mod laws;
-mod status;
-mod status_line;
+mod seed;
 mod words;
 
-pub use cipher_files::FileFault;
-pub use circuit_file::{CircuitFault, CircuitKind};
-pub use fault::{FileKind, LimitFault, LimitName};
+pub use command_forms::{
+    CertFile, CircuitFault, CircuitKind, FieldName, FileFault, FileKind, LimitFault, LimitName,
+    ListName, Status, TableFault, TextKind, TypeKind, ValueKind,
+};
+use key_commands::decrypt::decrypt;
+use key_commands::encrypt::encrypt;
+use key_commands::keygen::keygen;
 use port_store::{Sink, Store};
-pub use status::Status;
+use run_command::run;
 use std::alloc::Global;
-use words::CommandLine;
+use words::{Request, parse};
 
 /// Does the command that the words are, those after the program's name.
 ///
@@ -46,9 +49,13 @@ pub fn fhec<S: Store, O: Sink>(
         (outside (store_at S.files S.shown S.read_faults S.write_faults store.old) O.taken O.put_faults out.old)
         (outside (store_at S.files S.shown S.read_faults S.write_faults store.new) O.taken O.put_faults out.new) }
 {
-    match words::parse(words) {
-        CommandLine::Faulty => Status::Usage,
-        CommandLine::Run(names) => commands::run::run(alloc, store, out, &names),
+    key_flow::laws::laws();
+    match parse(words) {
+        Request::Faulty => Status::Usage,
+        Request::Keygen(names) => keygen(alloc, store, out, &names),
+        Request::Encrypt(names) => encrypt(alloc, store, out, &names),
+        Request::Run(names) => run(alloc, store, out, &names),
+        Request::Decrypt(names) => decrypt(alloc, store, out, &names),
     }
 }
 

@@ -2,9 +2,9 @@
 
 ghost use Rattle.std.specs.Prelude.{None};
 
-use crate::{CircuitFault, CircuitKind, FileFault, FileKind, LimitFault, LimitName, Status, fhec};
-use cipher_files::read_cipher;
-use lwe_core::{Big, LweKey, decode, phase};
+use crate::{
+    CircuitFault, CircuitKind, FileFault, FileKind, LimitFault, LimitName, Status, ValueKind, fhec,
+};
 use port_store::{MemSink, MemStore, PortFault, Store};
 use sha2::{Digest, Sha256};
 use std::alloc::{AllocError, Global};
@@ -54,13 +54,6 @@ const OUTPUT: [u8; 136] = [
     219, 239, 37, 60, 117, 68, 5, 251, 74, 179, 160, 46, 114, 41, 181, 225,
     240, 72, 132, 52, 6, 237, 60, 8,
 ];
-
-const CIRCUIT_REFUSED: Status = Status::Circuit(CircuitFault {
-    line: 1,
-    kind: CircuitKind::Later,
-});
-
-const CIPHER_REFUSED: Status = Status::File(FileKind::Cipher, FileFault::Later);
 
 /// The words of a command line.
 fn words_of(alloc: Global, line: &str) -> Result<Vec<String>, AllocError> {
@@ -118,45 +111,44 @@ fn sums(alloc: Global, circuit: &str, inputs: &str, output: &str) -> Result<bool
     )
 }
 
-#[test]
-fn the_sum_decrypts(rt: HostRuntime) -> Result<(), Fail> {
-    let alloc = rt.alloc();
-    let mut store = store_of(alloc, CIRCUIT.as_bytes(), &INPUTS)?;
-    assert_eq!(rt; run_over(alloc, &mut store)?, Status::Ok);
-    let output = store.bytes("output").ok_or("an output")?;
-    let Ok((head, sums)) = read_cipher(alloc, output) else {
-        panic!(rt; "no ciphertexts");
-    };
-    assert_eq!(rt; (head.dim, head.width, sums.len()), (2, 2, 1));
-    // the inputs stand for 1 with the error 3, and for 2 with the error -2: 3 * 2^61 + 1
-    let key = LweKey::<Big>::from_bits(vec![in alloc; true, false]?);
-    let phase = phase(&key, &sums[0]);
-    assert_eq!(rt; phase, 6_917_529_027_641_081_857);
-    assert_eq!(rt; decode(phase, head.width, 0), 3);
-    Ok(())
-}
+/// The fault of an empty circuit text.
+const NO_CIRCUIT: Status = Status::Circuit(CircuitFault {
+    line: 1,
+    kind: CircuitKind::Spelling,
+});
 
 #[test]
 fn refuses_words(rt: HostRuntime) -> Result<(), Fail> {
     let alloc = rt.alloc();
-    for line in [
-        "",
-        "compile p t x x",
-        "run",
-        "run circuit - inputs",
-        "run circuit - inputs output more",
-        "run circuit - circuit output",
-        "run circuit - inputs inputs",
-        "run circuit - inputs circuit",
-        "run circuit output inputs output",
-        "Run circuit - inputs output",
-        "--help",
+    let seed = "0123456789abcdef0123456789abcdef0123456789abcdef0123456789abcdef";
+    let upper = "0123456789ABCDEF0123456789ABCDEF0123456789ABCDEF0123456789ABCDEF";
+    for (before, given, after) in [
+        ("", "", ""),
+        ("", "load", "0"),
+        ("run", "", ""),
+        ("run circuit - inputs", "", ""),
+        ("run circuit - inputs output more", "", ""),
+        ("run circuit - circuit output", "", ""),
+        ("run circuit - inputs inputs", "", ""),
+        ("run circuit output inputs output", "", ""),
+        ("Run circuit - inputs output", "", ""),
+        ("--help", "", ""),
+        ("keygen circuit", upper, "keys -"),
+        ("keygen circuit", &seed[..63], "keys -"),
+        ("keygen circuit", seed, "keys"),
+        ("keygen circuit", seed, "circuit -"),
+        ("keygen circuit", seed, "keys keys"),
+        ("encrypt circuit keys", "seed", "values inputs"),
+        ("encrypt circuit keys", seed, "values keys"),
+        ("decrypt keys", "", ""),
+        ("decrypt keys keys", "", ""),
     ] {
         let mut store = store_of(alloc, CIRCUIT.as_bytes(), &INPUTS)?;
         // A call of the store would fail and be answered with Read.
         store.fail(0, 0)?;
         let mut sink = MemSink::new(alloc);
-        let words = words_of(alloc, line)?;
+        let line = format!(in alloc; "{before} {given} {after}")?;
+        let words = words_of(alloc, &line)?;
         assert_eq!(rt;
             fhec(alloc, &words, &mut store, &mut sink),
             Status::Usage,
@@ -169,66 +161,13 @@ fn refuses_words(rt: HostRuntime) -> Result<(), Fail> {
     for (circuit, inputs, answer) in [
         (CIRCUIT.as_bytes(), INPUTS.as_slice(), Status::Usage),
         (CIRCUIT.as_bytes(), b"".as_slice(), Status::Usage),
-        (b"".as_slice(), INPUTS.as_slice(), CIRCUIT_REFUSED),
+        (b"".as_slice(), INPUTS.as_slice(), NO_CIRCUIT),
     ] {
         let mut store = store_of(alloc, circuit, inputs)?;
         let mut sink = MemSink::new(alloc);
         assert_eq!(rt; fhec(alloc, &words, &mut store, &mut sink), answer);
         assert_eq!(rt; store.bytes("output"), Some(b"old".as_slice()));
     }
-    Ok(())
-}
-
-#[test]
-fn refuses_circuits(rt: HostRuntime) -> Result<(), Fail> {
-    let alloc = rt.alloc();
-    for (from, to, answer) in [
-        ("", "", Status::Ok),
-        ("end\n", "end", CIRCUIT_REFUSED),
-        ("end\n", "end\n\n", CIRCUIT_REFUSED),
-        ("out %2 0 3", "out %2 0 2", CIRCUIT_REFUSED),
-        ("out %2 0 3", "out %2 00 3", CIRCUIT_REFUSED),
-        ("out %2 0 3", "out %2 0 +3", CIRCUIT_REFUSED),
-        ("out %2 0 3", "out %2 -0 3", CIRCUIT_REFUSED),
-        ("width 2", "width 1", CIRCUIT_REFUSED),
-        ("width 2", "width 3", CIRCUIT_REFUSED),
-        ("input 0 2", "input 2 0", CIRCUIT_REFUSED),
-        ("lin 0 1 %0 1 %1", "lin 1 1 %0 1 %1", CIRCUIT_REFUSED),
-        (
-            "%2 = lin 0 1 %0 1 %1\nout",
-            "%2 = switch %0\n%3 = boot %2 1 3\nout",
-            CIRCUIT_REFUSED,
-        ),
-        // The bound of the sum is 2^60, and its limit too; one error less keeps it, and is of other parameters.
-        (
-            "glwe 1 1 1 3",
-            "glwe 1 1 1 576460752303423488",
-            CIRCUIT_REFUSED,
-        ),
-        (
-            "glwe 1 1 1 3",
-            "glwe 1 1 1 576460752303423487",
-            CIPHER_REFUSED,
-        ),
-        ("glwe 1 1 1 3", "glwe 4 1 1 3", CIRCUIT_REFUSED),
-        ("glwe 1 1 1 3", "glwe 1 1 3 3", CIRCUIT_REFUSED),
-        ("boot 1 1", "boot 8 8", CIRCUIT_REFUSED),
-        ("boot 1 1", "boot 9 7", CIPHER_REFUSED),
-        ("input 0 1", "input -1 0", CIRCUIT_REFUSED),
-    ] {
-        let (front, back) = CIRCUIT.split_once(from).ok_or("a part of the circuit")?;
-        let circuit = format!(in alloc; "{front}{to}{back}")?;
-        let mut store = store_of(alloc, circuit.as_bytes(), &INPUTS)?;
-        assert_eq!(rt; run_over(alloc, &mut store)?, answer, "{from} as {to}");
-        let left = if answer == Status::Ok {
-            OUTPUT.as_slice()
-        } else {
-            b"old".as_slice()
-        };
-        assert_eq!(rt; store.bytes("output"), Some(left));
-    }
-    let mut store = store_of(alloc, b"", &INPUTS)?;
-    assert_eq!(rt; run_over(alloc, &mut store)?, CIRCUIT_REFUSED);
     Ok(())
 }
 
@@ -328,25 +267,6 @@ fn evaluates_circuits(rt: HostRuntime) -> Result<(), Fail> {
 }
 
 #[test]
-fn refuses_ciphertext_files(rt: HostRuntime) -> Result<(), Fail> {
-    let alloc = rt.alloc();
-    let mut changed = INPUTS;
-    changed[175] = 0;
-    for inputs in [
-        changed.as_slice(),
-        &INPUTS[..175],
-        [].as_slice(),
-        // A sound file that is not of two inputs.
-        OUTPUT.as_slice(),
-    ] {
-        let mut store = store_of(alloc, CIRCUIT.as_bytes(), inputs)?;
-        assert_eq!(rt; run_over(alloc, &mut store)?, CIPHER_REFUSED);
-        assert_eq!(rt; store.bytes("output"), Some(b"old".as_slice()));
-    }
-    Ok(())
-}
-
-#[test]
 fn tells_missing_and_long_files(rt: HostRuntime) -> Result<(), Fail> {
     let alloc = rt.alloc();
     let mut store = MemStore::new(alloc);
@@ -433,26 +353,225 @@ fn tells_failing_calls(rt: HostRuntime) -> Result<(), Fail> {
     Ok(())
 }
 
-#[test]
-fn shows_statuses(rt: HostRuntime) -> Result<(), Fail> {
-    let limit = Status::Limit(LimitFault {
-        what: LimitName::Bytes,
-        count: 134_217_729,
-        most: 134_217_728,
-    });
-    for (status, code, line) in [
-        (Status::Ok, 0, ""),
-        (Status::Usage, 2, "fhec: usage"),
-        (CIRCUIT_REFUSED, 8, "fhec: circuit 1 later"),
-        (CIPHER_REFUSED, 9, "fhec: file cipher later"),
-        (limit, 11, "fhec: limit bytes 134217729 134217728"),
-        (Status::Read, 12, "fhec: read fault"),
-        (Status::Write, 13, "fhec: write fault"),
-        (Status::Memory, 14, "fhec: memory"),
-    ] {
-        assert_eq!(rt; status.code(), code);
-        let shown = status.line(rt.alloc())?;
-        assert_eq!(rt; shown.as_str(), line);
+/// The circuit of a look-up of one bit.
+const LOOK_UP: &str = "fhec circuit 1
+width 1
+glwe 1 3 1 3
+lwe 2 1 3
+boot 8 2
+switch 8 2
+%0 = input 0 1
+%1 = switch %0
+%2 = boot %1 1 0
+out %2 0 1
+end
+";
+
+/// The seal of the evaluation keys that the seed of 32 zero bytes gives for it.
+#[rattlefmt::skip]
+const EVAL_SEAL: [u8; 32] = [
+    123, 211, 199, 192, 148, 48, 254, 236, 132, 222, 155, 55, 59, 165, 29, 238,
+    236, 206, 149, 177, 229, 117, 45, 77, 120, 83, 142, 110, 35, 198, 148, 156,
+];
+
+/// The seals of its files of inputs and of outputs, for the value 0 and for the value 1.
+#[rattlefmt::skip]
+const SEALS: [[[u8; 32]; 2]; 2] = [
+    [
+        [
+            55, 253, 181, 170, 233, 39, 219, 59, 76, 74, 249, 65, 232, 57, 251, 181,
+            17, 143, 94, 224, 144, 24, 43, 19, 36, 29, 185, 45, 19, 148, 253, 155,
+        ],
+        [
+            23, 175, 47, 213, 184, 36, 74, 52, 187, 74, 230, 14, 129, 247, 147, 139,
+            65, 203, 238, 203, 246, 144, 150, 100, 216, 14, 100, 83, 169, 84, 116, 163,
+        ],
+    ],
+    [
+        [
+            254, 40, 235, 28, 231, 137, 238, 122, 168, 91, 173, 227, 119, 47, 158, 130,
+            201, 182, 147, 96, 43, 7, 181, 164, 52, 220, 232, 96, 42, 92, 83, 186,
+        ],
+        [
+            56, 99, 196, 75, 34, 221, 245, 51, 192, 40, 119, 135, 249, 121, 232, 138,
+            15, 50, 144, 121, 91, 129, 141, 228, 135, 165, 81, 121, 251, 39, 220, 62,
+        ],
+    ],
+];
+
+/// Sixty-four digits 0.
+const SEED: &str = "0000000000000000000000000000000000000000000000000000000000000000";
+
+/// What a command line answers over the store.
+fn does(
+    alloc: Global,
+    store: &mut MemStore,
+    sink: &mut MemSink,
+    line: &str,
+) -> Result<Status, AllocError> {
+    let words = words_of(alloc, line)?;
+    Ok(fhec(alloc, &words, store, sink))
+}
+
+/// Makes keys, encrypts values, runs a circuit and decrypts, and gives what was put, where all of it was done.
+fn flows(
+    alloc: Global,
+    store: &mut MemStore,
+    eval: &str,
+    values: &str,
+) -> Result<Option<MemSink>, AllocError> {
+    store.set("values", values.as_bytes())?;
+    let keygen = format!(in alloc; "keygen circuit {SEED} keys {eval}")?;
+    let encrypt = format!(in alloc; "encrypt circuit keys {SEED} values inputs")?;
+    let run = format!(in alloc; "run circuit {eval} inputs output")?;
+    let mut sink = MemSink::new(alloc);
+    let done = does(alloc, store, &mut sink, &keygen)? == Status::Ok
+        && does(alloc, store, &mut sink, &encrypt)? == Status::Ok
+        && does(alloc, store, &mut sink, &run)? == Status::Ok
+        && does(alloc, store, &mut sink, "decrypt keys output")? == Status::Ok;
+    Ok(if done { Some(sink) } else { None })
+}
+
+/// Whether a file ends with this seal.
+fn is_sealed(store: &MemStore, name: &str, seal: &[u8; 32]) -> bool {
+    match store.bytes(name) {
+        Some(bytes) => bytes.ends_with(seal),
+        None => false,
     }
+}
+
+#[test]
+fn goes_from_keys_to_values(rt: HostRuntime) -> Result<(), Fail> {
+    let alloc = rt.alloc();
+    let mut store = MemStore::new(alloc);
+    store.set("circuit", CIRCUIT.as_bytes())?;
+    let sink = flows(alloc, &mut store, "-", "1\n2\n")?.ok_or("the sum")?;
+    assert_eq!(rt; sink.bytes(), b"3\n".as_slice());
+    store.set("circuit", LOOK_UP.as_bytes())?;
+    for (value, shown, seals) in [("0", b"1\n", &SEALS[0]), ("1", b"0\n", &SEALS[1])] {
+        let sink = flows(alloc, &mut store, "eval", value)?.ok_or("the look-up")?;
+        assert_eq!(rt; sink.bytes(), shown.as_slice());
+        assert!(rt; is_sealed(&store, "eval", &EVAL_SEAL));
+        assert!(rt; is_sealed(&store, "inputs", &seals[0]));
+        assert!(rt; is_sealed(&store, "output", &seals[1]));
+    }
+    Ok(())
+}
+
+/// A look-up of two bits, with the parameters of the example table.
+const TABLE: &str = "fhec circuit 1
+width 2
+glwe 1 8 4 1024
+lwe 8 2 1048576
+boot 8 4
+switch 4 6
+%0 = input 0 3
+%1 = switch %0
+%2 = boot %1 1 3 0 2
+out %2 0 3
+end
+";
+
+/// How long a file is.
+fn size_of(store: &MemStore, name: &str) -> Option<usize> {
+    store.bytes(name).map(|bytes| bytes.len())
+}
+
+#[test]
+fn looks_up_each_value(rt: HostRuntime) -> Result<(), Fail> {
+    let alloc = rt.alloc();
+    let mut store = MemStore::new(alloc);
+    store.set("circuit", TABLE.as_bytes())?;
+    for (value, shown) in [("0", b"1\n"), ("1", b"3\n"), ("2", b"0\n"), ("3", b"2\n")] {
+        let sink = flows(alloc, &mut store, "eval", value)?.ok_or("a look-up")?;
+        assert_eq!(rt; sink.bytes(), shown.as_slice(), "{value}");
+    }
+    assert_eq!(rt; size_of(&store, "keys"), Some(2_200));
+    assert_eq!(rt; size_of(&store, "eval"), Some(372_848));
+    assert_eq!(rt; size_of(&store, "inputs"), Some(2_168));
+    assert_eq!(rt; size_of(&store, "output"), Some(2_168));
+    Ok(())
+}
+
+/// The SHA-256 of the parameter lines of the sum, by Python's `hashlib`.
+#[rattlefmt::skip]
+const SUM_DIGEST: [u8; 32] = [
+    236, 183, 102, 5, 160, 59, 252, 117, 12, 211, 94, 106, 146, 58, 189, 229,
+    63, 116, 218, 113, 27, 182, 99, 194, 186, 32, 93, 237, 156, 140, 107, 255,
+];
+
+/// That of those of the look-up of two bits.
+#[rattlefmt::skip]
+const TABLE_DIGEST: [u8; 32] = [
+    92, 207, 68, 122, 60, 176, 205, 187, 114, 74, 12, 167, 86, 107, 199, 86,
+    131, 167, 120, 236, 214, 145, 158, 149, 234, 210, 76, 244, 243, 32, 237, 21,
+];
+
+#[test]
+fn refuses_files(rt: HostRuntime) -> Result<(), Fail> {
+    let alloc = rt.alloc();
+    let mut store = MemStore::new(alloc);
+    store.set("circuit", TABLE.as_bytes())?;
+    flows(alloc, &mut store, "eval", "3")?.ok_or("a look-up")?;
+    let mut short = store.bytes("eval").ok_or("keys")?.to_vec(alloc)?;
+    short.truncate(372_847);
+    store.set("short", &short)?;
+    store.set("sum", CIRCUIT.as_bytes())?;
+    store.set("values", b"4")?;
+    let encrypt = format!(in alloc; "encrypt circuit keys {SEED} values other")?;
+    let length = FileFault::Length {
+        want: 372_848,
+        have: 372_847,
+    };
+    let other = FileFault::Mismatch {
+        left: SUM_DIGEST,
+        right: TABLE_DIGEST,
+    };
+    let outside = Status::Value {
+        line: 1,
+        kind: ValueKind::Range,
+    };
+    for (line, answer) in [
+        (
+            "run circuit short inputs other",
+            Status::File(FileKind::Eval, length),
+        ),
+        (
+            "run sum - inputs other",
+            Status::File(FileKind::Cipher, other),
+        ),
+        (
+            "run sum - keys other",
+            Status::File(FileKind::Cipher, FileFault::Magic),
+        ),
+        ("run circuit - inputs other", Status::Usage),
+        (encrypt.as_str(), outside),
+        (
+            "decrypt eval output",
+            Status::File(FileKind::Secret, FileFault::Magic),
+        ),
+    ] {
+        let mut sink = MemSink::new(alloc);
+        assert_eq!(rt; does(alloc, &mut store, &mut sink, line)?, answer, "{line}");
+        assert_eq!(rt; store.bytes("other"), None);
+        assert!(rt; sink.bytes().is_empty());
+    }
+    Ok(())
+}
+
+#[test]
+fn leaves_what_was_written(rt: HostRuntime) -> Result<(), Fail> {
+    let alloc = rt.alloc();
+    let mut store = MemStore::new(alloc);
+    store.set("circuit", TABLE.as_bytes())?;
+    // the circuit takes two calls, the secret keys two, and EVAL one to make it and one for each 65,536 bytes
+    store.fail(6, 100)?;
+    let mut sink = MemSink::new(alloc);
+    let line = format!(in alloc; "keygen circuit {SEED} keys eval")?;
+    assert_eq!(rt; does(alloc, &mut store, &mut sink, &line)?, Status::Write);
+    assert_eq!(rt; size_of(&store, "keys"), Some(2_200));
+    assert_eq!(rt; size_of(&store, "eval"), Some(65_636));
+    assert_eq!(rt; does(alloc, &mut store, &mut sink, &line)?, Status::Ok);
+    assert_eq!(rt; size_of(&store, "eval"), Some(372_848));
     Ok(())
 }

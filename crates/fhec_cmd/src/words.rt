@@ -2,50 +2,107 @@
 
 ghost use Rattle.std.specs.Prelude.{◌≡◌, map};
 ghost use Rattle.std.specs.String.{string_bytes};
-ghost use Rattle.std.specs.List.{list_any};
-ghost use Rattle.std.specs.Str.{bytes_eq};
-ghost use Rattle.fhec_cmd.specs.CommandLine.{request_of, run_of, is_no_eval, are_distinct, run_files};
-ghost use Rattle.fhec_cmd.specs.CommandView.{request_view, run_view};
+ghost use Rattle.command_forms.specs.Names.{are_distinct};
+ghost use Rattle.key_commands.specs.Words.{keygen_view, keygen_files};
+ghost use Rattle.run_command.specs.Words.{run_view, run_files};
+ghost use Rattle.fhec_cmd.specs.CommandLine.{request_of, keygen_of, encrypt_of, run_of, decrypt_of};
+ghost use Rattle.fhec_cmd.specs.CommandView.{request_view};
+
+use crate::seed::seed_of;
+use command_forms::{are_distinct, is_no_eval};
+use key_commands::decrypt::DecryptNames;
+use key_commands::encrypt::EncryptNames;
+use key_commands::keygen::KeygenNames;
+use run_command::RunNames;
 
 /// A command line.
 #[derive(Clone, Copy, Debug)]
-pub enum CommandLine<'a> {
+pub(crate) enum Request<'a> {
     /// The words are no command of the table, or two of its files have one name.
     Faulty,
+    Keygen(KeygenNames<'a>),
+    Encrypt(EncryptNames<'a>),
     Run(RunNames<'a>),
-}
-
-/// The words of `run CIRCUIT EVAL CIPHER OUTPUT`.
-#[derive(Clone, Copy, Debug)]
-pub struct RunNames<'a> {
-    pub circuit: &'a str,
-    pub eval: &'a str,
-    pub cipher: &'a str,
-    pub output: &'a str,
-}
-
-/// Whether EVAL is the word that stands for no evaluation keys.
-pub fn is_no_eval(word: &str) -> bool
-    ensures { result ≡ is_no_eval word.now }
-{
-    word == "-"
+    Decrypt(DecryptNames<'a>),
 }
 
 /// The command line that the words are.
-pub fn parse(words: &[String]) -> CommandLine<'_>
+pub(crate) fn parse(words: &[String]) -> Request<'_>
     ensures { request_view result ≡ request_of (map string_bytes words.now) }
 {
-    match words {
-        [command, words @ ..] if command.as_str() == "run" => run_of(words),
-        _ => CommandLine::Faulty,
+    let [command, words @ ..] = words else {
+        return Request::Faulty;
+    };
+    match command.as_str() {
+        "keygen" => keygen_of(words),
+        "encrypt" => encrypt_of(words),
+        "run" => run_of(words),
+        "decrypt" => decrypt_of(words),
+        _ => Request::Faulty,
     }
 }
 
-fn run_of(words: &[String]) -> CommandLine<'_>
+fn keygen_of(words: &[String]) -> Request<'_>
+    ensures { request_view result ≡ keygen_of (map string_bytes words.now) }
+{
+    let [circuit, seed, secret, eval] = words else {
+        return Request::Faulty;
+    };
+    let Some(seed) = seed_of(seed.as_str()) else {
+        return Request::Faulty;
+    };
+    let names = KeygenNames {
+        circuit: circuit.as_str(),
+        seed,
+        secret: secret.as_str(),
+        eval: eval.as_str(),
+    };
+    if are_key_files_distinct(&names) {
+        Request::Keygen(names)
+    } else {
+        Request::Faulty
+    }
+}
+
+/// Whether no two files of `keygen` have one name.
+fn are_key_files_distinct(names: &KeygenNames<'_>) -> bool
+    ensures { result ≡ are_distinct (keygen_files (keygen_view names.now)) }
+{
+    if is_no_eval(names.eval) {
+        are_distinct(&[names.circuit, names.secret])
+    } else {
+        are_distinct(&[names.circuit, names.secret, names.eval])
+    }
+}
+
+fn encrypt_of(words: &[String]) -> Request<'_>
+    ensures { request_view result ≡ encrypt_of (map string_bytes words.now) }
+{
+    let [circuit, secret, seed, values, cipher] = words else {
+        return Request::Faulty;
+    };
+    let Some(seed) = seed_of(seed.as_str()) else {
+        return Request::Faulty;
+    };
+    let names = EncryptNames {
+        circuit: circuit.as_str(),
+        secret: secret.as_str(),
+        seed,
+        values: values.as_str(),
+        cipher: cipher.as_str(),
+    };
+    if are_distinct(&[names.circuit, names.secret, names.values, names.cipher]) {
+        Request::Encrypt(names)
+    } else {
+        Request::Faulty
+    }
+}
+
+fn run_of(words: &[String]) -> Request<'_>
     ensures { request_view result ≡ run_of (map string_bytes words.now) }
 {
     let [circuit, eval, cipher, output] = words else {
-        return CommandLine::Faulty;
+        return Request::Faulty;
     };
     let names = RunNames {
         circuit: circuit.as_str(),
@@ -53,15 +110,15 @@ fn run_of(words: &[String]) -> CommandLine<'_>
         cipher: cipher.as_str(),
         output: output.as_str(),
     };
-    if are_files_distinct(&names) {
-        CommandLine::Run(names)
+    if are_run_files_distinct(&names) {
+        Request::Run(names)
     } else {
-        CommandLine::Faulty
+        Request::Faulty
     }
 }
 
-/// Whether no two files of the command have one name.
-fn are_files_distinct(names: &RunNames<'_>) -> bool
+/// Whether no two files of `run` have one name.
+fn are_run_files_distinct(names: &RunNames<'_>) -> bool
     ensures { result ≡ are_distinct (run_files (run_view names.now)) }
 {
     if is_no_eval(names.eval) {
@@ -71,22 +128,19 @@ fn are_files_distinct(names: &RunNames<'_>) -> bool
     }
 }
 
-/// Whether no name stands twice.
-fn are_distinct(names: &[&str]) -> bool
-    ensures { result ≡ are_distinct (map (λ name. name.now) names.now) }
+fn decrypt_of(words: &[String]) -> Request<'_>
+    ensures { request_view result ≡ decrypt_of (map string_bytes words.now) }
 {
-    match names {
-        [] => true,
-        [name, others @ ..] => !stands_in(name, others) && are_distinct(others),
-    }
-}
-
-/// Whether the name is one of these.
-fn stands_in(name: &str, names: &[&str]) -> bool
-    ensures { result ≡ list_any (bytes_eq name.now) (map (λ other. other.now) names.now) }
-{
-    match names {
-        [] => false,
-        [other, others @ ..] => name == *other || stands_in(name, others),
+    let [secret, output] = words else {
+        return Request::Faulty;
+    };
+    let names = DecryptNames {
+        secret: secret.as_str(),
+        output: output.as_str(),
+    };
+    if are_distinct(&[names.secret, names.output]) {
+        Request::Decrypt(names)
+    } else {
+        Request::Faulty
     }
 }

@@ -1,14 +1,10 @@
 -- What the keys of a seed are, for their files.
 use Rattle.std.proofs.Common.{◌≡◌, ℕ, ◌*◌, ◌+◌, ◌^◌, ◌≤◌, Bool, true, false, List, [], ◌∷◌, ◌++◌, length, All, Result, Ok, refl, sym, ap, subst, ◌∙◌, arith, cond}
-use Rattle.std.specs.Prelude.{nat_lt, count_by}
 use Rattle.std.specs.List.{list_any}
-use Rattle.std.proofs.Math.Nat.{mul-le-mul, one-le-pow}
-use Rattle.std.proofs.lemmas.Bool.{lt-ltb}
 use Rattle.std.proofs.lemmas.List.Elements.{All-head}
-use Rattle.std.proofs.lemmas.List.Recursion.{is_count_by}
 use Rattle.std.proofs.lemmas.List.FromFn.{length-map-range_with_len}
 use Rattle.fhe_params.specs.declared.params.Params.{Params}
-use Rattle.fhe_params.specs.Params.{IsParams, coefficients, big_dimension}
+use Rattle.fhe_params.specs.Params.{IsParams, big_dimension}
 use Rattle.fhe_params.specs.Cost.{key_words_of}
 use Rattle.tfhe_level.specs.declared.shape.Circuit.{Circuit}
 use Rattle.tfhe_level.specs.Operations.{is_boot}
@@ -18,36 +14,21 @@ use Rattle.noise_model.specs.declared.constraints.Constraint.TheVariants.{Size}
 use Rattle.noise_model.specs.Constraints.{IsMet, noise_constraints, constraints_of, most_key_words}
 use Rattle.blind_rotate.specs.BootKey.{BootRows, IsBootKey}
 use Rattle.lwe_core.specs.Secret.{HasDimensions}
+use Rattle.sealed_files.specs.Kinds.{IsWithin}
+use Rattle.sealed_files.specs.Kinds as fields
 use Rattle.key_gen.specs.Seeds.{drawn_bits, drawn_boot_key, key_numbers}
-use Rattle.key_files.specs.SecretFile.{secret_file, HasSecretLimits}
-use Rattle.key_files.specs.EvalFile.{IsBootOf}
+use Rattle.cipher_files.specs.SecretFile.{secret_file, HasSecretLimits}
+use Rattle.cipher_files.specs.EvalFile.{IsBootOf}
 use Rattle.port_store.specs.Files.{Files}
 use Rattle.refusals.specs.Reading.{◌>>=◌, unless}
 use Rattle.command_forms.specs.declared.fault.Fault.{Fault}
 use Rattle.command_forms.specs.declared.fault.Fault.TheVariants as fault
 use Rattle.command_forms.specs.Names.{are_distinct}
 use Rattle.key_commands.specs.Words.{KeygenWords, keygen_files}
-use Rattle.key_commands.specs.Keygen.{KeyFiles, has_boot, fits_eval, key_files_of}
-use Rattle.key_commands.proofs.InputLemmas.{big_short}
+use Rattle.command_files.specs.Files.{has_boot, fits_eval}
+use Rattle.key_commands.specs.Keygen.{KeyFiles, key_files_of}
 
 -- ---- bootstraps
-
--- how many pass, one by one
-abbrev counted : {A : Type 0} → (A → Bool) → List A → ℕ
-counted p [] = 0
-counted p (x ∷ xs) = cond (p x) (1 + counted p xs) (counted p xs)
-
-one_more : {A : Type 0} (p : A → Bool) (x : A) (xs : List A) (b : Bool) → p x ≡ b → nat_lt 0 (counted p xs) ≡ list_any p xs → nat_lt 0 (counted p (x ∷ xs)) ≡ list_any p (x ∷ xs)
-one_more p x xs true e same = rw e (lt-ltb 0 (1 + counted p xs) (omega arith))
-one_more p x xs false e same = rw e same
-
-some_counted : {A : Type 0} (p : A → Bool) (xs : List A) → nat_lt 0 (counted p xs) ≡ list_any p xs
-some_counted p [] = refl
-some_counted p (x ∷ xs) = one_more p x xs (p x) refl (some_counted p xs)
-
--- one is counted where there is one
-pub any_counted : {A : Type 0} (p : A → Bool) (xs : List A) → nat_lt 0 (count_by p xs) ≡ list_any p xs
-any_counted p xs = ap (nat_lt 0) (sym (is_count_by (counted p) p refl (λ x xs. refl) xs)) ∙ some_counted p xs
 
 met_size : (p : Params) (circuit : Circuit) (b : Bool) → list_any is_boot (nodes_of circuit.shape) ≡ b → b ≡ true → All IsMet (constraints_of p circuit.shape) → key_words_of p ≤ 2 ^ 25
 met_size p circuit true is e met =
@@ -79,14 +60,11 @@ drawn_dimensions p big_key small_key big small big_is small_is = record {
 }
 
 -- and their limits
-pub drawn_limits : (p : Params) (digest : List ℕ) (big small : List Bool) → IsParams p → HasDimensions (big_dimension p) p.lwe.n big small → HasSecretLimits (secret_file digest small big)
-drawn_limits p digest big small is dimensions =
-    let some_words : 1 ≤ coefficients p.glwe = one-le-pow p.glwe.log_n 2 (omega arith) in
-    let some : 1 * 1 ≤ big_dimension p = mul-le-mul is.glwe.k_low some_words in
-    record {
-      small = record { least = omega (arith, dimensions.small_length, is.lwe.n_low); most = omega (arith, dimensions.small_length, is.lwe.n_high) };
-      big = record { least = omega (arith, dimensions.big_length, some); most = omega (arith, dimensions.big_length, big_short p is.glwe) };
-    }
+pub drawn_limits : (p : Params) (digest : List ℕ) (big small : List Bool) → IsParams p → IsWithin fields.big_dimension (big_dimension p) → HasDimensions (big_dimension p) p.lwe.n big small → HasSecretLimits (secret_file digest small big)
+drawn_limits p digest big small is within dimensions = record {
+  small = record { least = omega (arith, dimensions.small_length, is.lwe.n_low); most = omega (arith, dimensions.small_length, is.lwe.n_high) };
+  big = subst (IsWithin fields.big_dimension) (sym dimensions.big_length) within;
+}
 
 -- ---- what goes on from the circuit
 

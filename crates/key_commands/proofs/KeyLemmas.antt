@@ -3,8 +3,8 @@ use Rattle.std.proofs.Common.{◌≡◌, ℕ, Bool, List, length, Ok}
 use Rattle.refusals.specs.Steps.{value_of_step}
 use Rattle.sealed_files.specs.Laws.{MatchLaws}
 use Rattle.sealed_files.specs.Matching.{same_digest, same_word}
-use Rattle.key_files.specs.declared.head.CipherHead.{CipherHead}
-use Rattle.key_files.specs.CipherFile.{key_fits}
+use Rattle.cipher_files.specs.declared.head.CipherHead.{CipherHead}
+use Rattle.cipher_files.specs.CipherFile.{key_fits}
 
 -- a big key that fits ciphertexts has their dimension
 pub fitting_long : MatchLaws → (digest : List ℕ) (big : List Bool) (head : CipherHead) → key_fits digest big head ≡ Ok tt → length big ≡ head.dim

@@ -5,9 +5,8 @@ use Rattle.port_store.specs.Files.{Bytes, Files}
 use Rattle.lwe_core.specs.Phase.{phase_of}
 use Rattle.lwe_core.specs.Decoding.{decoded}
 use Rattle.sealed_files.specs.declared.kinds.FileKind.TheVariants as kind
-use Rattle.key_files.specs.declared.head.CipherHead.{CipherHead}
-use Rattle.key_files.specs.SecretFile.{SecretFile}
-use Rattle.key_files.specs.CipherFile.{CipherFile, key_fits}
+use Rattle.cipher_files.specs.SecretFile.{SecretFile}
+use Rattle.cipher_files.specs.CipherFile.{CipherFile, cipher_head, key_fits}
 use Rattle.value_files.specs.declared.fault.ValueFault.{ValueFault}
 use Rattle.value_files.specs.declared.fault.ValueKind.TheVariants.{Decoded}
 use Rattle.value_files.specs.Values.{value_fault, values_text}
@@ -33,14 +32,10 @@ values_at line width big (range ∷ ranges) (words ∷ rows) = do
   values ← values_at (line + 1) width big ranges rows
   Ok (value ∷ values)
 
--- what a file of ciphertexts says of them
-abbrev pub head_of : CipherFile → CipherHead
-head_of file = record { digest = file.digest; dim = file.dim; width = file.width; ranges = file.ranges }
-
 -- the values of a file of ciphertexts under secret keys that fit it, a line each
 unfoldable pub decrypted_text : SecretFile → CipherFile → Result Bytes Fault
 decrypted_text secret file = do
-  fits ← as_fault (λ f. fault.File kind.Cipher f) (key_fits secret.digest secret.big (head_of file))
+  fits ← as_fault (λ f. fault.File kind.Cipher f) (key_fits secret.digest secret.big (cipher_head file))
   values ← as_fault fault.Value (values_at 1 file.width secret.big file.ranges file.ciphertexts)
   Ok (values_text values)
 

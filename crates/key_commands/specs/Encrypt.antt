@@ -13,8 +13,8 @@ use Rattle.key_gen.specs.Seeds.{drawn_row, input_label}
 use Rattle.sealed_files.specs.declared.kinds.FileKind.TheVariants as kind
 use Rattle.circuit_digest.specs.ParamsDigest.{params_digest}
 use Rattle.circuit_heads.specs.Heads.{input_head}
-use Rattle.key_files.specs.SecretFile.{SecretFile, secret_fits}
-use Rattle.key_files.specs.CipherFile.{CipherFile, file_of, cipher_bytes}
+use Rattle.cipher_files.specs.SecretFile.{SecretFile, secret_fits}
+use Rattle.cipher_files.specs.CipherFile.{CipherFile, file_of, cipher_bytes}
 use Rattle.command_forms.specs.declared.fault.Fault.{Fault}
 use Rattle.command_forms.specs.declared.fault.Fault.TheVariants as fault
 use Rattle.command_forms.specs.Outcome.{Outcome, as_fault, outcome_from, wrote}

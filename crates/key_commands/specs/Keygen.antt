@@ -1,42 +1,30 @@
 -- `keygen`: the keys of a circuit, drawn from a seed.
-use Rattle.std.specs.Prelude.{ℕ, Bool, not, List, [], ◌∷◌, Option, Some, None, Result, Ok, if◌then◌else◌}
-use Rattle.std.specs.List.{list_any}
+use Rattle.std.specs.Prelude.{ℕ, List, [], ◌∷◌, Option, Some, None, Result, Ok, if◌then◌else◌}
 use Rattle.std.specs.Option.{option_map}
 use Rattle.refusals.specs.Reading.{◌>>=◌, unless}
 use Rattle.port_store.specs.Files.{Bytes, Files}
 use Rattle.tfhe_level.specs.declared.shape.Circuit.{Circuit}
-use Rattle.tfhe_level.specs.Operations.{is_boot}
-use Rattle.tfhe_level.specs.Nodes.{nodes_of}
 use Rattle.key_gen.specs.Seeds.{key_numbers, big_key_of_seed, small_key_of_seed, switch_key_of_seed, boot_key_of_seed}
 use Rattle.circuit_digest.specs.ParamsDigest.{params_digest}
-use Rattle.key_files.specs.SecretFile.{SecretFile, secret_file, secret_bytes}
-use Rattle.key_files.specs.EvalFile.{EvalRows, eval_rows, eval_bytes}
+use Rattle.cipher_files.specs.SecretFile.{SecretFile, secret_file, secret_bytes}
+use Rattle.cipher_files.specs.EvalFile.{EvalRows, eval_rows, eval_bytes}
 use Rattle.command_forms.specs.declared.fault.Fault.{Fault}
 use Rattle.command_forms.specs.declared.fault.Fault.TheVariants as fault
 use Rattle.command_forms.specs.declared.status.Status.TheVariants as status
-use Rattle.command_forms.specs.Names.{is_no_eval}
 use Rattle.command_forms.specs.Outcome.{FileWrite, Outcome, file_write, outcome_from, wrote_all}
-use Rattle.command_files.specs.Files.{circuit_from}
+use Rattle.command_files.specs.Files.{has_boot, fits_eval, circuit_from}
 use Rattle.key_commands.specs.declared.keygen.KeyBytes.{KeyBytes}
 use Rattle.key_commands.specs.Words.{KeygenWords}
 
--- a circuit has a bootstrap, and so evaluation keys
-abbrev pub has_boot : Circuit → Bool
-has_boot circuit = list_any is_boot (nodes_of circuit.shape)
-
--- EVAL is the word `-` exactly where the circuit has none
-abbrev pub fits_eval : Circuit → Bytes → Bool
-fits_eval circuit eval = if has_boot circuit then not (is_no_eval eval) else is_no_eval eval
-
 -- the secret keys of a seed
-abbrev pub secret_of : Circuit → List ℕ → SecretFile
-secret_of circuit seed =
+abbrev pub secret_of_seed : Circuit → List ℕ → SecretFile
+secret_of_seed circuit seed =
     let p = key_numbers circuit.params in
     secret_file (params_digest circuit.params) (small_key_of_seed p seed) (big_key_of_seed p seed)
 
 -- its evaluation keys
-abbrev pub eval_of : Circuit → List ℕ → EvalRows
-eval_of circuit seed =
+abbrev pub eval_keys_of_seed : Circuit → List ℕ → EvalRows
+eval_keys_of_seed circuit seed =
     let p = key_numbers circuit.params in
     eval_rows (switch_key_of_seed p seed) (boot_key_of_seed p seed)
 
@@ -48,10 +36,10 @@ pub record KeyFiles : Type 0 where
 -- those of a circuit and a seed
 abbrev pub key_files_of : Circuit → List ℕ → KeyFiles
 key_files_of circuit seed = record {
-  secret = secret_bytes (secret_of circuit seed);
+  secret = secret_bytes (secret_of_seed circuit seed);
   eval =
       if has_boot circuit
-      then Some (eval_bytes (params_digest circuit.params) circuit.params (eval_of circuit seed))
+      then Some (eval_bytes (params_digest circuit.params) circuit.params (eval_keys_of_seed circuit seed))
       else None;
 }
 

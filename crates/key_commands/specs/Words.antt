@@ -1,7 +1,7 @@
 -- The words of the commands on keys.
-use Rattle.std.specs.Prelude.{List, [], ◌∷◌, if◌then◌else◌}
+use Rattle.std.specs.Prelude.{List, [], ◌∷◌}
 use Rattle.port_store.specs.Files.{Bytes}
-use Rattle.command_forms.specs.Names.{is_no_eval}
+use Rattle.command_files.specs.Files.{eval_files}
 use Rattle.key_commands.specs.declared.decrypt.DecryptNames.{DecryptNames}
 use Rattle.key_commands.specs.declared.encrypt.EncryptNames.{EncryptNames}
 use Rattle.key_commands.specs.declared.keygen.KeygenNames.{KeygenNames}
@@ -20,9 +20,7 @@ keygen_view names =
 
 -- the files that `keygen` names; the word `-` for EVAL is no file
 abbrev pub keygen_files : KeygenWords → List Bytes
-keygen_files words =
-    if is_no_eval words.eval then words.circuit ∷ words.secret ∷ []
-    else words.circuit ∷ words.secret ∷ words.eval ∷ []
+keygen_files words = words.circuit ∷ words.secret ∷ eval_files words.eval
 
 -- those of `encrypt CIRCUIT SECRET SEED VALUES CIPHER`; the seed is the 32 bytes of its word
 pub record EncryptWords : Type 0 where

@@ -3,8 +3,8 @@
 ghost use Rattle.std.specs.Prelude.{◌≡◌, [], ◌∷◌, true, length, OnOk};
 ghost use Rattle.refusals.specs.Reading.{Gives};
 ghost use Rattle.sealed_files.specs.declared.kinds.FileKind.TheVariants as kind;
-ghost use Rattle.key_files.specs.SecretFile.{secret_file};
-ghost use Rattle.key_files.specs.CipherFile.{file_of, key_fits, IsCipherFile};
+ghost use Rattle.cipher_files.specs.SecretFile.{secret_file};
+ghost use Rattle.cipher_files.specs.CipherFile.{file_of, key_fits, IsCipherFile};
 ghost use Rattle.command_forms.specs.Names.{are_distinct};
 ghost use Rattle.command_forms.specs.Outcome.{as_fault};
 ghost use Rattle.command_forms.specs.Outside.{MayLeave, outside, store_at};
@@ -13,9 +13,9 @@ ghost use Rattle.key_commands.specs.Words.{decrypt_view, decrypt_files};
 ghost use Rattle.key_commands.specs.Decrypt.{values_at, decrypted_text, decrypted, decrypt_outcome};
 
 use crate::values::values_at;
+use cipher_files::{CipherHead, key_fits};
 use command_files::{cipher_from, secret_from};
 use command_forms::{Fault, FileKind, Status, StepRefusal, put_all};
-use key_files::{CipherHead, key_fits};
 use lwe_core::{Big, Lwe, LweKey, Secret};
 use port_store::{Sink, Store};
 use refusals::Refusal;

@@ -8,8 +8,8 @@ ghost use Rattle.noise_model.specs.Circuits.{IsCircuit};
 ghost use Rattle.tfhe_level.specs.Nodes.{nodes_of};
 ghost use Rattle.tfhe_level.specs.Laws.{input_ranges};
 ghost use Rattle.circuit_heads.specs.Heads.{input_head};
-ghost use Rattle.key_files.specs.SecretFile.{secret_file, IsSecretFile};
-ghost use Rattle.key_files.specs.CipherFile.{cipher_bytes};
+ghost use Rattle.cipher_files.specs.SecretFile.{secret_file, IsSecretFile};
+ghost use Rattle.cipher_files.specs.CipherFile.{cipher_bytes};
 ghost use Rattle.command_forms.specs.Names.{are_distinct};
 ghost use Rattle.command_forms.specs.Outside.{MayLeave, outside, store_at};
 ghost use Rattle.command_forms.specs.Steps.{ReadsAs};
@@ -17,11 +17,11 @@ ghost use Rattle.key_commands.specs.Words.{encrypt_view, encrypt_files};
 ghost use Rattle.key_commands.specs.Encrypt.{input_file, fitting_secret, encrypted, encrypt_outcome};
 
 use crate::inputs::draw_inputs;
+use cipher_files::{CipherHead, print_cipher, secret_fits};
 use circuit_digest::params_digest;
 use circuit_heads::input_head;
 use command_files::{circuit_from, secret_from, values_from};
 use command_forms::{Fault, FileKind, Status, StepRefusal, write_file};
-use key_files::{CipherHead, print_cipher, secret_fits};
 use lwe_core::{Big, LweKey, Secret};
 use port_store::{Sink, Store};
 use refusals::Refusal;
@@ -74,6 +74,7 @@ fn input_bytes(
     requires within { AreIn (input_ranges (nodes_of circuit.now.shape)) values.now }
     ensures { IfOk result (λ bytes. bytes.items ≡ cipher_bytes (input_file circuit.now seed.now big.now values.now)) }
 {
+    circuit_heads::laws::laws();
     let list = draw_inputs(
         alloc,
         big,
@@ -96,6 +97,7 @@ fn encrypted<S: Store>(
         (store_at S.files S.shown S.read_faults S.write_faults store.new)
         (λ bytes. bytes.items) result (encrypted (encrypt_view names.now)) }
 {
+    circuit_heads::laws::laws();
     let circuit = circuit_from(alloc, store, names.circuit)?;
     let (digest, secret) = secret_from(alloc, store, names.secret)?;
     check_secret(alloc, &circuit, &digest, &secret)?;

@@ -1,30 +1,30 @@
 //! `keygen`: the keys of a circuit, drawn from a seed.
 
 ghost use Rattle.std.specs.Prelude.{◌≡◌, ◌≤◌, ◌^◌, [], ◌∷◌, true, IfOk};
-ghost use Rattle.ir_core.specs.Placed.{IsPlaced};
 ghost use Rattle.lwe_core.specs.Secret.{HasDimensions};
 ghost use Rattle.fhe_params.specs.Params.{IsParams, big_dimension};
 ghost use Rattle.fhe_params.specs.Cost.{key_words_of};
 ghost use Rattle.noise_model.specs.Circuits.{IsCircuit};
 ghost use Rattle.seed_stream.specs.Draws.{stream_key};
 ghost use Rattle.key_gen.specs.Seeds.{key_numbers, drawn_switch_key, drawn_boot_key, switch_label, boot_label};
-ghost use Rattle.key_files.specs.EvalFile.{eval_rows, eval_bytes};
+ghost use Rattle.cipher_files.specs.EvalFile.{eval_rows, eval_bytes};
 ghost use Rattle.command_forms.specs.Names.{are_distinct};
 ghost use Rattle.command_forms.specs.Outside.{MayLeave, outside, store_at};
 ghost use Rattle.command_forms.specs.Steps.{ReadsAs, WritesAs};
 ghost use Rattle.key_commands.specs.Words.{keygen_view, keygen_files};
-ghost use Rattle.key_commands.specs.Keygen.{has_boot, fits_eval, key_files_of, key_view, generated, wrote_keys, keygen_outcome};
+ghost use Rattle.key_commands.specs.Keygen.{key_files_of, key_view, generated, wrote_keys, keygen_outcome};
 
+use cipher_files::{print_eval, print_secret};
 use circuit_digest::params_digest;
-use command_files::circuit_from;
-use command_forms::{Fault, Status, StepRefusal, is_no_eval, write_both, write_file};
+use command_files::{circuit_from, fits_eval};
+use command_forms::{Fault, Status, StepRefusal, write_both, write_file};
 use fhe_params::Params;
-use key_files::{print_eval, print_secret};
 use key_gen::{make_boot_key, make_secret, make_switch_key};
 use lwe_core::Secret;
+use noise_model::has_boot;
 use port_store::{Sink, Store};
 use std::alloc::{AllocError, Global};
-use tfhe_level::{Circuit, counts};
+use tfhe_level::Circuit;
 
 /// The words of `keygen CIRCUIT SEED SECRET EVAL`.
 #[derive(Clone, Copy, Debug)]
@@ -40,26 +40,6 @@ pub struct KeygenNames<'a> {
 pub(crate) struct KeyBytes {
     pub(crate) secret: Vec<u8>,
     pub(crate) eval: Option<Vec<u8>>,
-}
-
-/// Whether a circuit has a bootstrap.
-fn has_boot(circuit: &Circuit) -> bool
-    requires { IsPlaced circuit.now.shape.graph }
-    ensures { result ≡ has_boot circuit.now }
-{
-    counts(&circuit.shape).boots > 0
-}
-
-/// Whether EVAL is the word `-` exactly where the circuit has no bootstrap.
-fn fits_eval(circuit: &Circuit, eval: &str) -> bool
-    requires { IsPlaced circuit.now.shape.graph }
-    ensures { result ≡ fits_eval circuit.now eval.now }
-{
-    if has_boot(circuit) {
-        !is_no_eval(eval)
-    } else {
-        is_no_eval(eval)
-    }
 }
 
 /// The bytes of the file of evaluation keys.
@@ -90,11 +70,12 @@ fn key_bytes(alloc: Global, circuit: &Circuit, seed: &[u8; 32]) -> Result<KeyByt
     requires { IsCircuit circuit.now }
     ensures { IfOk result (λ keys. key_view keys ≡ key_files_of circuit.now seed.now) }
 {
+    circuit_heads::laws::laws();
     let params = &circuit.params;
     let digest = params_digest(alloc, params)?;
     let drawn = make_secret(alloc, params, seed)?;
     let secret = print_secret(alloc, &digest, &drawn)?;
-    let eval = if has_boot(circuit) {
+    let eval = if has_boot(&circuit.shape) {
         Some(eval_bytes_of(alloc, params, &digest, &drawn, seed)?)
     } else {
         None

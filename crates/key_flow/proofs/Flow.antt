@@ -17,13 +17,22 @@ use Rattle.noise_model.specs.Circuits.{IsCircuit}
 use Rattle.seed_stream.specs.Draws.{stream_key}
 use Rattle.tfhe_level.specs.Nodes.{nodes_of, node_ranges, at_outs, clear_values}
 use Rattle.tfhe_level.specs.Laws.{input_ranges}
-use Rattle.shape_run.specs.Running.{output_words}
-use Rattle.shape_run.specs.Noise.{AreOfParams, EvalKeysFit, StandFor, AreGood, IsRight, AreRight}
-use Rattle.shape_run.specs.Laws.{NoiseLaws}
+use Rattle.sealed_files.specs.Laws.{MatchLaws}
+use Rattle.circuit_digest.specs.ParamsDigest.{params_digest}
+use Rattle.circuit_heads.specs.Heads.{out_ranges}
+use Rattle.circuit_heads.specs.Laws.{HeadLaws}
+use Rattle.cipher_files.specs.SecretFile.{secret_file}
+use Rattle.cipher_files.specs.CipherFile.{cipher_head, key_fits}
+use Rattle.value_files.specs.Values.{values_text}
+use Rattle.circuit_run.specs.Running.{EvalKeys, output_words}
+use Rattle.circuit_run.specs.Noise.{AreOfParams, EvalKeysFit, StandFor, AreGood, IsRight, AreRight}
+use Rattle.circuit_run.specs.Laws.{NoiseLaws}
 use Rattle.key_commands.specs.Encrypt.{drawn_input, drawn_inputs}
-use Rattle.key_commands.specs.Decrypt.{value_at, values_at}
-use Rattle.key_commands.specs.Keygen.{has_boot, secret_of, eval_of}
-use Rattle.key_flow.specs.Laws.{some_keys, no_keys, run_keys, inputs_of, KeyCommandLaws}
+use Rattle.key_commands.specs.Decrypt.{value_at, values_at, decrypted_text}
+use Rattle.command_files.specs.Files.{has_boot}
+use Rattle.key_commands.specs.Keygen.{secret_of_seed, eval_keys_of_seed}
+use Rattle.run_command.specs.Run.{some_keys, no_keys, output_file}
+use Rattle.key_flow.specs.Laws.{run_keys, inputs_of, KeyCommandLaws}
 
 -- ---- inputs
 
@@ -69,20 +78,36 @@ all_right line width big (range ∷ ranges) (bound ∷ bounds) (row ∷ rows) []
 all_right line width big (range ∷ ranges) (bound ∷ bounds) (row ∷ rows) (value ∷ values) right =
     rw (value_right line width big range bound row value right.0, all_right (line + 1) width big ranges bounds rows values right.1) refl
 
+-- a key that is the circuit's fits the file of its outputs
+key_is : MatchLaws → (circuit : Circuit) (keys : EvalKeys) (big : List Bool) (inputs : List (List ℕ)) → length big ≡ big_dimension circuit.params → key_fits (params_digest circuit.params) big (cipher_head (output_file circuit keys inputs)) ≡ Ok tt
+unfolding key_fits
+key_is laws circuit keys big inputs long = rw (laws.same_digests (params_digest circuit.params), long, laws.same_words (big_dimension circuit.params)) refl
+
+printed : MatchLaws → HeadLaws → NoiseLaws → (circuit : Circuit) (keys : EvalKeys) (big small : List Bool) (values : List ℤ) (inputs : List (List ℕ)) → IsCircuit circuit → AreGood circuit keys big small values inputs
+    → decrypted_text (secret_file (params_digest circuit.params) small big) (output_file circuit keys inputs) ≡ Ok (values_text (clear_values (nodes_of circuit.shape) values))
+unfolding decrypted_text
+printed match_laws heads noise circuit keys big small values inputs is good =
+    let right = noise.outputs_right circuit keys big small values inputs is good in
+    let nodes = nodes_of circuit.shape in
+    let decoded_all : values_at 1 circuit.shape.width big (out_ranges nodes) (output_words circuit keys inputs) ≡ Ok (clear_values nodes values) =
+    ap (λ (ranges : List (ℤ × ℤ)). values_at 1 circuit.shape.width big ranges (output_words circuit keys inputs)) (heads.outs nodes)
+    ∙ all_right 1 circuit.shape.width big _ _ _ _ right in
+    rw (key_is match_laws circuit keys big inputs good.secret.big_length, decoded_all) refl
+
 -- ---- from values to values
 
-dimensions : (circuit : Circuit) (seed : List ℕ) → HasDimensions (big_dimension circuit.params) circuit.params.lwe.n (secret_of circuit seed).big (secret_of circuit seed).small
+dimensions : (circuit : Circuit) (seed : List ℕ) → HasDimensions (big_dimension circuit.params) circuit.params.lwe.n (secret_of_seed circuit seed).big (secret_of_seed circuit seed).small
 dimensions circuit seed = record {
   big_length = length-map-range_with_len _ 0 (big_dimension circuit.params);
   small_length = length-map-range_with_len _ 0 circuit.params.lwe.n;
 }
 
 keys_fit : BootKeyLaws → (circuit : Circuit) (seed : List ℕ) → IsParams circuit.params
-    → KeysFit (key_numbers circuit.params) (secret_of circuit seed).big (secret_of circuit seed).small (eval_of circuit seed).switch.rows (eval_of circuit seed).boot.ggsws
+    → KeysFit (key_numbers circuit.params) (secret_of_seed circuit seed).big (secret_of_seed circuit seed).small (eval_keys_of_seed circuit seed).switch.rows (eval_keys_of_seed circuit seed).boot.ggsws
 keys_fit boots circuit seed is = boots.keys_fit (key_numbers circuit.params) seed (boots.parameters_can circuit.params is)
 
 -- the keys of a seed are of the parameters
-of_params : (circuit : Circuit) (seed : List ℕ) → AreOfParams circuit.params (eval_of circuit seed).switch (eval_of circuit seed).boot
+of_params : (circuit : Circuit) (seed : List ℕ) → AreOfParams circuit.params (eval_keys_of_seed circuit seed).switch (eval_keys_of_seed circuit seed).boot
 of_params circuit seed = record {
   big_dim = (dimensions circuit seed).big_length;
   small_dim = (dimensions circuit seed).small_length;
@@ -93,32 +118,33 @@ of_params circuit seed = record {
 
 -- where the circuit has a bootstrap, they are there and fit
 run_keys_fit : BootKeyLaws → (circuit : Circuit) (seed : List ℕ) → IsParams circuit.params → has_boot circuit ≡ true
-    → EvalKeysFit circuit.params (secret_of circuit seed).big (secret_of circuit seed).small (run_keys circuit seed).switch (run_keys circuit seed).boot
+    → EvalKeysFit circuit.params (secret_of_seed circuit seed).big (secret_of_seed circuit seed).small (run_keys circuit seed).switch (run_keys circuit seed).boot
 run_keys_fit boots circuit seed is boot =
-    subst (λ (b : Bool). EvalKeysFit circuit.params (secret_of circuit seed).big (secret_of circuit seed).small (cond b (some_keys (eval_of circuit seed)) no_keys).switch (cond b (some_keys (eval_of circuit seed)) no_keys).boot)
+    subst (λ (b : Bool). EvalKeysFit circuit.params (secret_of_seed circuit seed).big (secret_of_seed circuit seed).small (cond b (some_keys (eval_keys_of_seed circuit seed)) no_keys).switch (cond b (some_keys (eval_keys_of_seed circuit seed)) no_keys).boot)
     (sym boot) (of_params circuit seed, keys_fit boots circuit seed is)
 
 whole : KeyLaws → BootKeyLaws → NoiseLaws → (circuit : Circuit) (seed other : List ℕ) (values : List ℤ) → IsCircuit circuit → AreIn (input_ranges (nodes_of circuit.shape)) values
-    → values_at 1 circuit.shape.width (secret_of circuit seed).big (at_outs (nodes_of circuit.shape) (node_ranges (nodes_of circuit.shape)))
-    (output_words circuit (run_keys circuit seed) (inputs_of circuit (secret_of circuit seed).big other values)) ≡ Ok (clear_values (nodes_of circuit.shape) values)
+    → values_at 1 circuit.shape.width (secret_of_seed circuit seed).big (at_outs (nodes_of circuit.shape) (node_ranges (nodes_of circuit.shape)))
+    (output_words circuit (run_keys circuit seed) (inputs_of circuit (secret_of_seed circuit seed).big other values)) ≡ Ok (clear_values (nodes_of circuit.shape) values)
 whole keys boots noise circuit seed other values is within =
-    let big = (secret_of circuit seed).big in
+    let big = (secret_of_seed circuit seed).big in
     let inputs = inputs_of circuit big other values in
-    let good : AreGood circuit (run_keys circuit seed) big (secret_of circuit seed).small values inputs = record {
+    let good : AreGood circuit (run_keys circuit seed) big (secret_of_seed circuit seed).small values inputs = record {
       secret = dimensions circuit seed;
       fit = λ boot. run_keys_fit boots circuit seed is.params boot;
       ranges = within;
       fresh = fresh keys (stream_key other input_label) big circuit.shape.width circuit.params.glwe.error values;
     } in
-    all_right 1 circuit.shape.width big _ _ _ _ (noise.outputs_right circuit (run_keys circuit seed) big (secret_of circuit seed).small values inputs is good)
+    all_right 1 circuit.shape.width big _ _ _ _ (noise.outputs_right circuit (run_keys circuit seed) big (secret_of_seed circuit seed).small values inputs is good)
 
 -- ---- all of it
 
-pub flow : KeyLaws → BootKeyLaws → NoiseLaws → KeyCommandLaws
-flow keys boots noise = record {
+pub flow : KeyLaws → BootKeyLaws → NoiseLaws → MatchLaws → HeadLaws → KeyCommandLaws
+flow keys boots noise match_laws heads = record {
   keys_fit = keys_fit boots;
   dimensions = dimensions;
   fresh = fresh keys;
   decrypted = all_right;
+  printed = printed match_laws heads noise;
   whole = whole keys boots noise;
 }

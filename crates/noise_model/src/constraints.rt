@@ -199,7 +199,7 @@ fn is_boot(op: &TfheOp) -> bool
 }
 
 /// Whether a circuit has a bootstrap.
-fn has_boot(shape: &Shape) -> bool
+pub fn has_boot(shape: &Shape) -> bool
     requires { IsPlaced shape.now.graph }
     ensures { result ≡ list_any is_boot (nodes_of shape.now) }
 {

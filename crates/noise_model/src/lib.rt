@@ -12,7 +12,9 @@ mod noise;
 
 pub use bounds::{BoundRoom, edge_bounds};
 pub use cap::{cap_add, cap_mul};
-pub use constraints::{Broken, Constraint, first_broken, noise_constraints, size_constraint};
+pub use constraints::{
+    Broken, Constraint, first_broken, has_boot, noise_constraints, size_constraint,
+};
 
 #[cfg(test)]
 mod tests;

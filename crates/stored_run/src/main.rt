@@ -6,11 +6,16 @@ use hex::ToHex;
 use port_store::{FileStore, OutSink, read_whole};
 use std::alloc::Global;
 
-/// The command lines, one after another: a sum that is written, and two that are refused.
-const COMMANDS: [&str; 3] = [
+/// The command lines, one after another: a sum that is written, two that are refused, and then from keys and values to
+/// values again.
+const COMMANDS: [&str; 7] = [
     "run circuit - inputs output",
     "run circuit keys inputs other",
     "run inputs - circuit other",
+    "keygen circuit 0000000000000000000000000000000000000000000000000000000000000000 secret -",
+    "encrypt circuit secret 0000000000000000000000000000000000000000000000000000000000000000 values fresh",
+    "run circuit - fresh result",
+    "decrypt secret result",
 ];
 
 /// The words of a command line.

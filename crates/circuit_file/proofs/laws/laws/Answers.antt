@@ -1,10 +1,19 @@
-use Rattle.circuit_file.proofs.CircuitWhole.{circuit_taken, circuit_again}
-use Rattle.circuit_file.proofs.NodeLines.{input_range_rules, input_range_passes}
-use Rattle.circuit_file.proofs.TextLengths.{circuit_size}
+use Rattle.circuit_file.proofs.ReadBack.{Below, read_rules, read_text}
+use Rattle.circuit_file.proofs.SpelledBack.{spelled_back}
+use Rattle.circuit_file.proofs.TextSize.{text_size}
 use Rattle.circuit_file.proofs.laws.laws.Goals as goal
 
-pub returns-clause-texts : goal.returns-clause-texts
-returns-clause-texts c = record { read = circuit_taken; spelled = circuit_again; size = circuit_size }
-
-pub returns-clause-ranges : goal.returns-clause-ranges
-returns-clause-ranges c = record { test = λ lo hi. (input_range_rules lo hi, input_range_passes lo hi) }
+pub returns : goal.returns
+returns c =
+    let below : Below = record {
+      limits = c.laws.ensures.limits;
+      texts = c.laws-5.ensures.lines;
+      lines = c.laws-6.ensures.lines;
+      widths = c.laws-6.ensures.width;
+      constraints = c.laws-4.ensures;
+    } in
+    record {
+      read = λ bytes circuit e. (read_rules below bytes circuit e, read_text below bytes circuit e);
+      spelled = spelled_back c.laws-2.ensures c.laws-3.ensures below;
+      size = text_size c.laws-3.ensures below;
+    }

@@ -1,5 +1,5 @@
 use Rattle.std.proofs.lemmas.Result.{err_from_is_err_and}
-use Rattle.circuit_text.specs.Limits.{circuit_limit}
+use Rattle.circuit_file.specs.Limits.{circuit_limit}
 use Rattle.command_forms.specs.Outcome.{reading}
 use Rattle.command_forms.specs.StepLemmas.{reads_refused, reads_then, reads_nothing, of_part}
 use Rattle.command_files.specs.Files.{circuit_in, circuit_from}

@@ -1,7 +1,7 @@
 use Rattle.std.proofs.Common.{[]}
 use Rattle.std.proofs.lemmas.Result.{err_from_is_err_and}
 use Rattle.refusals.specs.Reading.{◌>>=◌}
-use Rattle.key_files.specs.SecretFile.{secret_file}
+use Rattle.cipher_files.specs.SecretFile.{secret_file}
 use Rattle.command_forms.specs.StepLemmas.{reads_refused, reads_then, reads_nothing, of_part}
 use Rattle.command_files.specs.Files.{secret_from, cipher_from}
 use Rattle.key_commands.specs.Words.{decrypt_view}

@@ -1,5 +1,5 @@
 use Rattle.std.proofs.Common.{sym}
-use Rattle.key_files.specs.SecretFile.{secret_file}
+use Rattle.cipher_files.specs.SecretFile.{secret_file}
 use Rattle.key_commands.proofs.InputLemmas.{fitting_secret_long}
 use Rattle.key_commands.proofs.encrypt.check_secret.Goals as goal
 

@@ -3,18 +3,17 @@ use Rattle.std.proofs.lemmas.Result.{err_from_is_err_and}
 use Rattle.port_store.specs.Files.{Bytes}
 use Rattle.tfhe_level.specs.Nodes.{nodes_of}
 use Rattle.tfhe_level.specs.Laws.{input_ranges}
-use Rattle.key_files.specs.SecretFile.{secret_file}
+use Rattle.cipher_files.specs.SecretFile.{secret_file}
 use Rattle.command_forms.specs.StepLemmas.{reads_refused, reads_then, reads_nothing, of_part}
 use Rattle.command_files.specs.Files.{circuit_from, secret_from, values_from}
 use Rattle.key_commands.specs.Words.{encrypt_view}
 use Rattle.key_commands.specs.Encrypt.{fitting_secret, encrypted}
-use Rattle.key_commands.proofs.InputLemmas.{few_inputs, after_circuit, after_secret, after_fitting, bytes_of}
+use Rattle.key_commands.proofs.InputLemmas.{after_circuit, after_secret, after_fitting, bytes_of}
 use Rattle.key_commands.proofs.encrypt.encrypted.Goals as goal
 
 pub values_from-requires : goal.values_from-requires
 values_from-requires g c =
-    let circuit = c.in_ok-circuit.circuit in
-    let few = few_inputs (nodes_of circuit.shape) c.in_ok-circuit.ensures.rules.shape.nodes.rules in
+    let few = (c.laws.ensures.input_limits c.in_ok-circuit.circuit c.in_ok-circuit.ensures.rules).number.most in
     rw (c.as_slice.ensures, c.in-Ok.ensures) (omega (arith, few))
 
 pub returns-in_err-circuit : goal.returns-in_err-circuit

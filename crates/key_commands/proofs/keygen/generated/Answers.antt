@@ -3,9 +3,9 @@ use Rattle.std.proofs.lemmas.Result.{err_from_is_err_and}
 use Rattle.command_forms.specs.declared.fault.Fault.TheVariants as fault
 use Rattle.command_forms.specs.declared.fault.StepRefusal.TheVariants as refusal
 use Rattle.command_forms.specs.StepLemmas.{reads_refused, reads_then, reads_nothing}
-use Rattle.command_files.specs.Files.{circuit_from}
+use Rattle.command_files.specs.Files.{fits_eval, circuit_from}
 use Rattle.key_commands.specs.Words.{keygen_view}
-use Rattle.key_commands.specs.Keygen.{KeyFiles, fits_eval, generated}
+use Rattle.key_commands.specs.Keygen.{KeyFiles, generated}
 use Rattle.key_commands.proofs.KeyFacts.{after_circuit}
 use Rattle.key_commands.proofs.keygen.generated.Goals as goal
 

@@ -1,7 +1,0 @@
-use Rattle.std.proofs.Common.{◌≡◌, ◌++◌, take}
-use Rattle.std.specs.List.{flat_map}
-use Rattle.cipher_files.specs.CiphertextFile.{range_bytes}
-use Rattle.cipher_files.proofs.printing.put_ranges.Given as goal
-
-abbrev pub invariant-loop-range : goal.invariant-loop-range
-invariant-loop-range l = l.out.items ≡ l.fn.out.items ++ flat_map range_bytes (take l.range-index l.ranges)

@@ -1,9 +1,0 @@
-pub mod Limits
-pub mod Faults
-pub mod Params
-pub mod Fitting
-pub mod Circuit
-pub mod Walks
-pub mod Steps
-pub mod Text
-pub mod Laws

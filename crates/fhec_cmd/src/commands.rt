@@ -1,4 +1,0 @@
-//! The commands, a module each.
-
-pub mod files;
-pub mod run;

@@ -1,4 +1,0 @@
-pub mod SecretFile
-pub mod CipherFile
-pub mod EvalFile
-pub mod Laws
