@@ -5,3 +5,4 @@ pub mod Whole
 pub mod Values
 pub mod Entries
 pub mod Clears
+pub mod Checked

@@ -36,7 +36,7 @@ unless_none true fault rest none = (refl, none)
 unless_none false fault rest none = absurd cc
 
 -- where no argument breaks its type, each keeps it
-each_declared : (place : ℕ) (args : List Arg) → argument_fault place args ≡ None → AllByRecursion (λ arg. keeps_declared arg ≡ true) args
+pub each_declared : (place : ℕ) (args : List Arg) → argument_fault place args ≡ None → AllByRecursion (λ arg. keeps_declared arg ≡ true) args
 each_declared place [] none = tt
 each_declared place (arg ∷ args) none =
     let parts = unless_none (keeps_declared arg) _ _ none in
@@ -67,7 +67,7 @@ is_there earlier value ty is =
       | inr past ↦ absurd (false≢true (sym (ap (λ found. option_map_or (λ own. same_type own ty) found false) (slice_get_past earlier value past)) ∙ is))
     ]
 
-both : (a b : Bool) → (a && b) ≡ true → (a ≡ true) × (b ≡ true)
+pub both : (a b : Bool) → (a && b) ≡ true → (a ≡ true) × (b ≡ true)
 both true b is = (refl, is)
 both false b is = absurd (false≢true is)
 
@@ -87,7 +87,7 @@ are_there earlier values written is =
     All-from_recursion (λ value. value < length earlier) values (all_there earlier values written (eqb-true (length values) (length written) parts.0) parts.1)
 
 -- where a test fails or a fault is there, and no fault is there, the test fails
-when_none : {A : Type 0} (test : Bool) (fault : A) (rest : Option A) → cond (not test) (Some fault) rest ≡ None
+pub when_none : {A : Type 0} (test : Bool) (fault : A) (rest : Option A) → cond (not test) (Some fault) rest ≡ None
     → (test ≡ true) × (rest ≡ None)
 when_none true fault rest none = (refl, none)
 when_none false fault rest none = absurd cc

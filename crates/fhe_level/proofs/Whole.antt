@@ -53,11 +53,11 @@ module _ (source : Source) where
 -- ---- what was built so far
 
 -- the types of arguments are those of their operations
-types_of_arguments : (args : List Arg) → map type_of (map argument_op args) ≡ argument_types args
+pub types_of_arguments : (args : List Arg) → map type_of (map argument_op args) ≡ argument_types args
 types_of_arguments [] = refl
 types_of_arguments (arg ∷ args) = ap (λ rest. arg.ty ∷ rest) (types_of_arguments args)
 
-types_of_body : (body : List Statement) → map type_of (map statement_op body) ≡ map value_type body
+pub types_of_body : (body : List Statement) → map type_of (map statement_op body) ≡ map value_type body
 types_of_body [] = refl
 types_of_body (statement ∷ body) =
     ap (λ ty. ty ∷ map type_of (map statement_op body)) (type_of_statement statement)

@@ -1,5 +1,6 @@
 -- What holds of a source within the limits.
 use Rattle.std.proofs.Common.{◌≡◌, ℕ, ◌<◌, ◌≤◌, max, Bool, true, false, cond, ltb, List, [], ◌∷◌, length, fold, All, refl, sym, ap, ◌∙◌, subst, inl, inr, arith, Option, Some, None}
+use Rattle.std.specs.Prelude.{count_by}
 use Rattle.std.specs.Option.{option_or}
 use Rattle.std.specs.List.{AllByRecursion}
 use Rattle.std.proofs.lemmas.Bool.{cases_lt, lt-ltb}
@@ -14,7 +15,7 @@ use Rattle.fhe_level.specs.Limits.{over, width_of, widest, widest_arg, widest_st
 -- ---- the greatest of some numbers
 
 -- a greatest number bounds what it began with and each number
-fold_max_all : {A : Type 0} (f : A → ℕ) (least most : ℕ) (xs : List A) → fold (λ n x. max n (f x)) least xs ≤ most
+pub fold_max_all : {A : Type 0} (f : A → ℕ) (least most : ℕ) (xs : List A) → fold (λ n x. max n (f x)) least xs ≤ most
     → (least ≤ most) × AllByRecursion (λ x. f x ≤ most) xs
 fold_max_all f least most [] within = (within, tt)
 fold_max_all f least most (x ∷ xs) within =
@@ -27,7 +28,7 @@ each_width args most within =
 
 -- ---- no limit is passed
 
-first_none : {A : Type 0} (a b : Option A) → option_or a b ≡ None → (a ≡ None) × (b ≡ None)
+pub first_none : {A : Type 0} (a b : Option A) → option_or a b ≡ None → (a ≡ None) × (b ≡ None)
 first_none None b e = (refl, e)
 first_none (Some x) b e = absurd cc
 
@@ -42,7 +43,10 @@ not_over what count most e =
 pub record IsWithin (source : Source) : Type 0 where
   pub operations : length source.body ≤ 4096
   pub arguments : length source.args ≤ 64
+  pub results : length source.results ≤ 64
+  pub look_ups : count_by is_look_up source.body ≤ 1024
   pub widths : widest_arg source.args ≤ 16
+  pub statement_widths : widest_statement source.body ≤ 16
 
 pub within_limits : (source : Source) → limit_fault source ≡ None → IsWithin source
 within_limits source e =
@@ -54,5 +58,8 @@ within_limits source e =
     record {
       operations = not_over Operations (length source.body) 4096 arguments.0;
       arguments = not_over Arguments (length source.args) 64 arguments.1;
+      results = not_over Results (length source.results) 64 results.1;
+      look_ups = not_over Lookups (count_by is_look_up source.body) 1024 look_ups.1;
       widths = omega (arith, most);
+      statement_widths = omega (arith, most);
     }

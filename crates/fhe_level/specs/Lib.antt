@@ -8,3 +8,4 @@ pub mod Building
 pub mod Clearing
 pub mod Room
 pub mod Laws
+pub mod Checked

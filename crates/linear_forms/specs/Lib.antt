@@ -2,3 +2,4 @@ pub mod Forms
 pub mod Sound
 pub mod Merging
 pub mod Laws
+pub mod Staying

@@ -1,0 +1,11 @@
+pub mod Marks
+pub mod Anew
+pub mod Widths
+pub mod Walk
+pub mod SoFar
+pub mod Results
+pub mod Moved
+pub mod Keeping
+pub mod Small
+pub mod Steps
+pub mod Worked

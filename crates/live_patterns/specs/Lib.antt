@@ -1,0 +1,4 @@
+pub mod Found
+pub mod Live
+pub mod Laws
+pub mod Renumbering
