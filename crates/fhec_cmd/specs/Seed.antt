@@ -1,5 +1,5 @@
 -- The seed of keys and of inputs, as a word.
-use Rattle.std.specs.Prelude.{ℕ, nat_le, Bool, ◌&&◌, List, Option, Some, None, Result, Ok, Err, if◌then◌else◌}
+use Rattle.std.specs.Prelude.{ℕ, nat_le, ◌==◌, Bool, not, ◌&&◌, ◌||◌, List, length, Option, Some, None, Result, Ok, Err, if◌then◌else◌}
 use Rattle.std.specs.List.{list_any}
 use Rattle.hex.specs.declared.error.FromHexError.{FromHexError}
 use Rattle.hex.specs.Hex.{decode_sized}
@@ -15,4 +15,5 @@ decoded (Err error) = None
 
 -- the 32 bytes that 64 hexadecimal digits spell, the high four bits of a byte first, with letters in lower case
 abbrev pub seed_of : List ℕ → Option (List ℕ)
-seed_of word = if list_any is_upper word then None else decoded (decode_sized word 32)
+seed_of word =
+    if not (length word == 64) || list_any is_upper word then None else decoded (decode_sized word 32)

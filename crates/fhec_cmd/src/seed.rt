@@ -18,7 +18,7 @@ fn has_upper(word: &[u8]) -> bool
 pub(crate) fn seed_of(word: &str) -> Option<[u8; 32]>
     ensures { result ≡ seed_of word.now }
 {
-    if has_upper(word.as_bytes()) {
+    if word.len() != 64 || has_upper(word.as_bytes()) {
         return None;
     }
     let mut seed = [0; 32];
