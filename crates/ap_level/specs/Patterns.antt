@@ -1,5 +1,5 @@
 -- What patterns compute on whole numbers, operation by operation.
-use Rattle.std.specs.Prelude.{List, [], length, map, filter, ℤ, unsigned_abs}
+use Rattle.std.specs.Prelude.{List, [], length, map, filter, filter_map, Option, Some, None, ℤ, unsigned_abs}
 use Rattle.std.specs.List.{zip}
 use Rattle.ir_core.specs.Placed.{operations_of}
 use Rattle.forms.specs.Forms.{number_at, form_value, form_range}
@@ -47,3 +47,12 @@ range_of earlier (Out constant terms) = form_range constant terms earlier
 -- the ranges of all operations
 abbrev pub pattern_ranges : List ApOp → List (ℤ × ℤ)
 pattern_ranges operations = from_earlier range_of [] operations
+
+-- the range of an argument
+abbrev pub argument_range : ApOp → Option (ℤ × ℤ)
+argument_range (Input lo hi) = Some (lo, hi)
+argument_range _ = None
+
+-- the ranges of the arguments, in order
+abbrev pub argument_ranges : List ApOp → List (ℤ × ℤ)
+argument_ranges operations = filter_map argument_range operations

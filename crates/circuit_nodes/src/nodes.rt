@@ -15,9 +15,7 @@ ghost use Rattle.circuit_nodes.specs.Nodes.{AreKept, leaf_range, is_held_at};
 ghost use Rattle.circuit_nodes.specs.Walk.{most_operations};
 
 use crate::kinds::{Kinds, is_big_node, is_leaf, is_message, is_switch};
-use crate::numbers::{
-    are_numbers, are_rising, holds_range, is_number_range, is_same_range, range_of_entries,
-};
+use crate::numbers::{are_numbers, are_rising, holds_range, is_number_range, is_same_range};
 use circuit_lines::LineRefusal;
 use forms::limits::{MOST_CONSTANT, MOST_INPUTS, MOST_OUTS, MOST_WEIGHT, MOST_WIDTH};
 use refusals::Refusal;
@@ -269,7 +267,7 @@ fn leaf_range(op: &TfheOp) -> (i64, i64)
 {
     match op {
         TfheOp::Input { lo, hi } => (*lo, *hi),
-        TfheOp::Boot { entries, .. } => range_of_entries(entries.as_slice()),
+        TfheOp::Boot { entries, .. } => range_pass::range_of_entries(entries.as_slice()),
         _ => (0, 0),
     }
 }

@@ -4,7 +4,6 @@ ghost use Rattle.std.specs.Prelude.{◌≡◌, ◌≤◌};
 ghost use Rattle.std.specs.List.{list_all};
 ghost use Rattle.forms.specs.Limits.{most_width};
 ghost use Rattle.range_pass.specs.Bounds.{IsWide};
-ghost use Rattle.forms.specs.Ranges.{range_of_entries};
 ghost use Rattle.circuit_nodes.specs.Tests.{is_number, is_number_range, is_same_range, are_rising, holds_range};
 
 use forms::limits::{LEAST_NUMBER, MOST_NUMBER};
@@ -49,22 +48,6 @@ pub(crate) fn are_rising(terms: &[(u32, i64)]) -> bool
         low = u64::from(term.0) + 1;
     }
     true
-}
-
-/// From the least to the greatest of these entries.
-pub(crate) fn range_of_entries(entries: &[i64]) -> (i64, i64)
-    ensures { result ≡ range_of_entries entries.now }
-{
-    let Some((first, others)) = entries.split_first() else {
-        return (0, 0);
-    };
-    let mut least = *first;
-    let mut greatest = *first;
-    for entry in others {
-        least = least.min(*entry);
-        greatest = greatest.max(*entry);
-    }
-    (least, greatest)
 }
 
 /// Whether a width holds a range.

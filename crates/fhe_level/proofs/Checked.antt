@@ -32,7 +32,8 @@ use Rattle.fhe_level.specs.Programs.{argument_op, statement_op, operations_in, n
 use Rattle.fhe_level.specs.Clearing.{op_with, type_with, KeepsRow, HasEntries, HasWidth, is_argument, is_constant, AreArguments, IsResult, IsFhe}
 use Rattle.fhe_level.specs.Checked.{looks_up, IsChecked}
 use Rattle.fhe_level.proofs.Widths.{fold_max_all, first_none, IsWithin, within_limits}
-use Rattle.fhe_level.proofs.Steps.{both, each_declared, when_none, type_of_statement}
+use Rattle.fhe_level.specs.Standing.{both}
+use Rattle.fhe_level.proofs.Steps.{each_declared, when_none, type_of_statement}
 use Rattle.fhe_level.proofs.Whole.{types_of_arguments, types_of_body}
 
 -- ---- no check fails

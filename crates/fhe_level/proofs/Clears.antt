@@ -22,55 +22,13 @@ use Rattle.fhe_level.specs.Operations.{operands_of, type_of}
 use Rattle.fhe_level.specs.Programs.{Value, number, table, number_in, operand_at, apply, value_at, value_of, operation_values}
 use Rattle.fhe_level.specs.Clearing.{op_with, type_with, KeepsRow, HasEntries, HasWidth, IsNumberOf, IsResult, is_argument, is_constant, AreArguments, number_of, IsFhe, IsClear}
 use Rattle.fhe_level.specs.Room.{held, held_value, HoldsBefore, AreHeld, IsIndexIn, CanApply}
-use Rattle.fhe_level.proofs.Values.{op_with-place, op_there, place_with, number_there, same_place, value_is, value_before, values_before}
-use Rattle.fhe_level.proofs.Entries.{both, bounded, can_apply, finds, index_type, held_is}
-
--- what holds of each entry holds of one that stands somewhere
-pub entry_has : {A : Type 0} (P : A → Type 0) (list : List A) (place : ℕ) (entry : A) → All P list → slice_get list place ≡ Some entry → P entry
-entry_has P list place entry each at =
-    subst P (get_or_from_slice_get list place entry entry at) (each place entry (slice_get_within list place entry at))
+use Rattle.fhe_level.specs.Standing.{both, op_with-place, op_there, number_there, same_place, entry_has, argument_has_range, length_in, index_type, finds}
+use Rattle.fhe_level.proofs.Values.{value_is, value_before, values_before}
+use Rattle.fhe_level.proofs.Entries.{bounded, can_apply, held_is}
 
 map_same : {A B : Type 0} (f g : A → B) (xs : List A) → AllByRecursion (λ x. f x ≡ g x) xs → map f xs ≡ map g xs
 map_same f g [] same = refl
 map_same f g (x ∷ xs) same = ap (λ y. y ∷ map f xs) same.0 ∙ ap (λ ys. g x ∷ ys) (map_same f g xs same.1)
-
--- the operand at a place
-pub operand_is : (f : ℕ → Value) (operands : List ℕ) (at d : ℕ) → at < length operands
-    → operand_at (map f operands) at ≡ f (get_or operands at d)
-operand_is f [] at d within = absurd (omega arith)
-operand_is f (operand ∷ operands) zero d within = refl
-operand_is f (operand ∷ operands) (suc at) d within = operand_is f operands at d (omega arith)
-
--- ---- arguments
-
--- where no operation is an argument, none is at a place
-no_argument : (operations : List (ℕ × FheOp)) (place wanted : ℕ) (ty : WrittenType)
-    → list_all (λ (entry : ℕ × FheOp). not (is_argument entry.1)) operations ≡ true
-    → slice_get operations place ≡ Some (wanted, ops.Arg ty) → ⊥
-no_argument [] place wanted ty none at = cc
-no_argument (entry ∷ operations) zero wanted ty none at =
-    let own : entry ≡ (wanted, ops.Arg ty) = cc in
-    let parts = both (not (is_argument entry.1)) (list_all (λ (e : ℕ × FheOp). not (is_argument e.1)) operations) none in
-    false≢true (sym (ap (λ (e : ℕ × FheOp). not (is_argument e.1)) own) ∙ parts.0)
-no_argument (entry ∷ operations) (suc place) wanted ty none at =
-    let parts = both (not (is_argument entry.1)) (list_all (λ (e : ℕ × FheOp). not (is_argument e.1)) operations) none in
-    no_argument operations place wanted ty parts.1 at
-
--- each argument has a range
-pub argument_has_range : (operations : List (ℕ × FheOp)) (ranges : List (ℤ × ℤ)) (place wanted : ℕ) (ty : WrittenType)
-    → AreArguments operations ranges → slice_get operations place ≡ Some (wanted, ops.Arg ty) → place < length ranges
-argument_has_range operations [] place wanted ty are at = absurd (no_argument operations place wanted ty are at)
-argument_has_range [] (range ∷ ranges) place wanted ty are at = absurd are
-argument_has_range (entry ∷ operations) (range ∷ ranges) zero wanted ty are at = omega arith
-argument_has_range (entry ∷ operations) (range ∷ ranges) (suc place) wanted ty are at =
-    omega (arith, argument_has_range operations ranges place wanted ty are.2 at)
-
--- one value for each range
-pub length_in : (ranges : List (ℤ × ℤ)) (values : List ℤ) → AreIn ranges values → length values ≡ length ranges
-length_in [] [] are = refl
-length_in [] (value ∷ values) are = absurd are
-length_in (range ∷ ranges) [] are = absurd are
-length_in (range ∷ ranges) (value ∷ values) are = omega (arith, length_in ranges values are.1)
 
 -- ---- one operation
 
@@ -239,23 +197,6 @@ holds_more program inputs room place wanted z at within inside holds is other be
           let P : ℕ → Type 0 = λ (n : ℕ). get_or (set room wanted z) n (pos 0) ≡ number_of program inputs n in
           subst P (sym same) (get_or-set_same room wanted z (pos 0) inside ∙ is)
     ]
-
--- where nothing stands at a place, all places are before it
-pub past_all : (numbers : List ℕ) (place : ℕ) → slice_get numbers place ≡ None → length numbers ≤ place
-past_all numbers place none =
-    elim (cases_lt place (length numbers)) [
-      | inl inside ↦ absurd (let found : slice_get numbers place ≡ Some (get_or numbers place 0) = slice_get-get_or numbers place 0 inside in cc)
-      | inr past ↦ past
-    ]
-
-some_place : (operations : List (ℕ × FheOp)) (wanted : ℕ) (found : Option FheOp) → op_with operations wanted ≡ found
-    → IsSomeAnd found (λ op. not (is_constant op) ≡ true) → place_of operations wanted < length operations
-some_place operations wanted None same is = absurd is
-some_place operations wanted (Some op) same is = place_with operations wanted op same
-
--- a result is there
-pub result_there : (operations : List (ℕ × FheOp)) (wanted : ℕ) → IsResult operations wanted → place_of operations wanted < length operations
-result_there operations wanted is = some_place operations wanted (op_with operations wanted) refl is
 
 -- one result more
 pub results_more : (f : ℕ → ℤ) (results : List ℕ) (index : ℕ) (found : List ℤ) (z : ℤ) → index < length results

@@ -18,10 +18,6 @@ use Rattle.fhe_level.specs.Programs.{Value, number, table, number_in, operand_at
 use Rattle.fhe_level.specs.Clearing.{HasWidth, HasEntries, IsNumberOf}
 use Rattle.fhe_level.specs.Room.{held, IsIndexIn, CanApply}
 
-pub both : (a b : Bool) → (a && b) ≡ true → (a ≡ true) × (b ≡ true)
-both true b is = (refl, is)
-both false b is = absurd (false≢true is)
-
 -- ---- numbers
 
 -- a number of the type of a result is below 2^16
@@ -45,28 +41,6 @@ can_apply NegEint operands fits index = fits
 can_apply MulEintInt operands fits index = fits
 can_apply Zero operands fits index = fits
 can_apply ApplyLookupTable operands fits index = index refl
-
--- ---- look-ups
-
--- a number of the index's type finds its entry in the value of the table's operation
-pub finds : (index : WrittenType) (op : FheOp) (inputs : List ℤ) (earlier : List (ℕ × Value)) (z : ℤ) → is_eint index ≡ true
-    → (tensor_length (type_of op) == 2 ^ width_of index) ≡ true → HasEntries op → IsNumberOf index z → IsIndexIn (value_of inputs earlier op) z
-finds (types.Eint width) (ops.Dense (tables.List numbers) count bits) inputs earlier z eint same has is =
-    let long : count ≡ 2 ^ width = eqb-true count (2 ^ width) same in
-    let one : 1 ≤ 2 ^ width = pow_mono {i = 0} {j = width} (omega arith) in
-    let below : z <ℤ pos (2 ^ width) = omega (arith, ints, is.1, one) in
-    (is.0, omega (arith, ints, below, long, has))
-finds (types.Eint width) (ops.Dense (tables.Splat y) count bits) inputs earlier z eint same has is = tt
-finds (types.Eint width) (ops.Arg ty) inputs earlier z eint same has is = tt
-finds (types.Eint width) (ops.Int value bits) inputs earlier z eint same has is = tt
-finds (types.Eint width) (ops.Apply name operands ty) inputs earlier z eint same has is = tt
-finds (types.Int bits) op inputs earlier z eint same has is = absurd (false≢true eint)
-finds (types.Tensor count bits) op inputs earlier z eint same has is = absurd (false≢true eint)
-
--- the row of a look-up: an index of an encrypted type
-pub index_type : (index entries ty : WrittenType) → keeps_row ApplyLookupTable (index ∷ entries ∷ []) ty ≡ true → is_eint index ≡ true
-index_type index entries ty keeps =
-    (both (is_eint index) _ (both (is_eint ty) (fit_slots (width_of ty) (row_of ApplyLookupTable) (index ∷ entries ∷ [])) keeps).1).0
 
 -- ---- values
 

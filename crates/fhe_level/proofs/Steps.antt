@@ -22,6 +22,7 @@ use Rattle.fhe_level.specs.Operations.{operands_of, type_of}
 use Rattle.fhe_level.specs.Types.{keeps_declared, argument_fault, same_type, is_type_of, are_types_of, value_type, statement_fault, body_fault}
 use Rattle.fhe_level.specs.Programs.{statement_op}
 use Rattle.fhe_level.specs.Building.{types_in}
+use Rattle.fhe_level.specs.Standing.{both}
 
 -- ---- arguments
 
@@ -66,10 +67,6 @@ is_there earlier value ty is =
       | inl within ↦ within
       | inr past ↦ absurd (false≢true (sym (ap (λ found. option_map_or (λ own. same_type own ty) found false) (slice_get_past earlier value past)) ∙ is))
     ]
-
-pub both : (a b : Bool) → (a && b) ≡ true → (a ≡ true) × (b ≡ true)
-both true b is = (refl, is)
-both false b is = absurd (false≢true is)
 
 all_there : (earlier : List WrittenType) (values : List ℕ) (written : List WrittenType) → length values ≡ length written
     → list_all (λ (p : ℕ × WrittenType). is_type_of earlier p.0 p.1) (zip values written) ≡ true → AllByRecursion (λ value. value < length earlier) values

@@ -7,5 +7,6 @@ pub mod Programs
 pub mod Building
 pub mod Clearing
 pub mod Room
+pub mod Standing
 pub mod Laws
 pub mod Checked

@@ -12,10 +12,9 @@ use Rattle.ir_core.specs.Graph.{place_of, numbers_of}
 use Rattle.ap_level.specs.declared.level.ApOp.{ApOp}
 use Rattle.ap_level.specs.declared.level.ApOp.TheVariants.{Input, Look, Out}
 use Rattle.ap_level.specs.Operations.{operands_of, is_input, is_look, is_out}
-use Rattle.ap_level.specs.Patterns.{value_of, range_of, at_outs, pattern_values, clear_values}
+use Rattle.ap_level.specs.Patterns.{value_of, range_of, at_outs, pattern_values, clear_values, argument_range, argument_ranges}
 use Rattle.live_patterns.specs.Found.{KeepsFoundRule, AreFound}
 use Rattle.live_patterns.specs.Live.{renumbered, in_places, kept_before, live_patterns}
-use Rattle.live_patterns.specs.Laws.{input_range, input_ranges}
 use Rattle.live_patterns.proofs.Walk.{IsPlaced, numbers_push, length-numbers, IsKept, IsSteady, walk}
 use Rattle.live_patterns.proofs.SoFar.{all_weaker, IsSoFar, nothing_so_far, so_far_dropped, so_far_kept}
 
@@ -250,39 +249,39 @@ values_same operations inputs found =
 
 -- ---- arguments
 
-range_renumbered : (numbering : ℕ → ℕ) (op : ApOp) → input_range (renumbered numbering op) ≡ input_range op
+range_renumbered : (numbering : ℕ → ℕ) (op : ApOp) → argument_range (renumbered numbering op) ≡ argument_range op
 range_renumbered numbering (Input lo hi) = refl
 range_renumbered numbering (Look constant terms entries) = refl
 range_renumbered numbering (Out constant terms) = refl
 
-no_range : (op : ApOp) → is_look op ≡ true → input_range op ≡ None
+no_range : (op : ApOp) → is_look op ≡ true → argument_range op ≡ None
 no_range (Input lo hi) look = absurd (false≢true look)
 no_range (Look constant terms entries) look = refl
 no_range (Out constant terms) look = refl
 
 abbrev HaveInputs : List (ℕ × ApOp) → List ApOp → List (ℕ × ApOp) → Type 0
-HaveInputs all earlier done = input_ranges (in_places all done) ≡ input_ranges earlier
+HaveInputs all earlier done = argument_ranges (in_places all done) ≡ argument_ranges earlier
 
 one_range : (range : Option (ℤ × ℤ)) → cons_option range [] ≡ option_to_list range
 one_range None = refl
 one_range (Some range) = refl
 
-inputs_push : (operations : List ApOp) (op : ApOp) → input_ranges (operations ++ op ∷ []) ≡ input_ranges operations ++ option_to_list (input_range op)
-inputs_push operations op = filter_map-append input_range operations (op ∷ []) ∙ ap (λ l. input_ranges operations ++ l) (one_range (input_range op))
+inputs_push : (operations : List ApOp) (op : ApOp) → argument_ranges (operations ++ op ∷ []) ≡ argument_ranges operations ++ option_to_list (argument_range op)
+inputs_push operations op = filter_map-append argument_range operations (op ∷ []) ∙ ap (λ l. argument_ranges operations ++ l) (one_range (argument_range op))
 
 inputs_steady : (all : List (ℕ × ApOp)) → IsSteady all (HaveInputs all)
 inputs_steady all = record {
   dropped = λ earlier done op look rule have.
-      have ∙ sym (append-nil (input_ranges earlier)) ∙ sym (ap (λ o. input_ranges earlier ++ option_to_list o) (no_range op look)) ∙ sym (inputs_push earlier op);
+      have ∙ sym (append-nil (argument_ranges earlier)) ∙ sym (ap (λ o. argument_ranges earlier ++ option_to_list o) (no_range op look)) ∙ sym (inputs_push earlier op);
   kept = λ earlier done op kept have.
-      ap input_ranges (in_places_push all done (length earlier, op))
+      ap argument_ranges (in_places_push all done (length earlier, op))
       ∙ inputs_push (in_places all done) (renumbered (place_of all) op)
-      ∙ ap (λ o. input_ranges (in_places all done) ++ option_to_list o) (range_renumbered (place_of all) op)
-      ∙ ap (λ l. l ++ option_to_list (input_range op)) have
+      ∙ ap (λ o. argument_ranges (in_places all done) ++ option_to_list o) (range_renumbered (place_of all) op)
+      ∙ ap (λ l. l ++ option_to_list (argument_range op)) have
       ∙ sym (inputs_push earlier op);
 }
 
-pub inputs_same : (operations : List ApOp) → AreFound operations → input_ranges (live_patterns operations) ≡ input_ranges operations
+pub inputs_same : (operations : List ApOp) → AreFound operations → argument_ranges (live_patterns operations) ≡ argument_ranges operations
 inputs_same operations found =
     let all = kept_before 0 operations [] in
     walk operations (HaveInputs all) found.rules found.narrow (inputs_steady all) refl

@@ -4,7 +4,7 @@ ghost use Rattle.std.specs.Prelude.{◌≡◌, ◌<◌, ◌≤◌, ◌-◌, ◌^
 ghost use Rattle.ir_core.specs.Placed.{operations_of, IsPlaced};
 ghost use Rattle.forms.specs.Forms.{span_of};
 ghost use Rattle.forms.specs.Limits.{most_width};
-ghost use Rattle.forms.specs.Ranges.{range_of_entries, IsLeastWidth, HoldsRanges};
+ghost use Rattle.forms.specs.Ranges.{IsLeastWidth, HoldsRanges};
 ghost use Rattle.range_pass.specs.Bounds.{IsWide};
 ghost use Rattle.ap_level.specs.Operations.{operands_of};
 ghost use Rattle.ap_level.specs.Patterns.{patterns_of, range_of};
@@ -18,7 +18,7 @@ use crate::live::kept_operations;
 use crate::patterns::Patterns;
 use ap_level::{ApLevel, ApOp, ApProgram};
 use ir_core::Level;
-use range_pass::range_of;
+use range_pass::{range_of, range_of_entries};
 use std::alloc::{AllocError, Global};
 
 /// Puts the places of an operation's operands for their numbers.
@@ -30,22 +30,6 @@ fn renumber(op: &mut ApOp, places: &[u32])
         let number = ApLevel::operand(op, at);
         ApLevel::set_operand(op, at, places[number as usize]);
     }
-}
-
-/// From the least to the greatest of the entries.
-fn range_of_entries(entries: &[i64]) -> (i64, i64)
-    ensures { result ≡ range_of_entries entries.now }
-{
-    let Some((first, others)) = entries.split_first() else {
-        return (0, 0);
-    };
-    let mut least = *first;
-    let mut greatest = *first;
-    for entry in others {
-        least = least.min(*entry);
-        greatest = greatest.max(*entry);
-    }
-    (least, greatest)
 }
 
 /// The range of an operation, from those of the operations before it.

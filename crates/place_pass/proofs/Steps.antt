@@ -11,6 +11,7 @@ use Rattle.forms.specs.FromEarlier.{from_earlier, from_earlier_push, length-from
 use Rattle.ap_level.specs.declared.level.ApOp.{ApOp}
 use Rattle.ap_level.specs.declared.level.ApOp.TheVariants as patterns
 use Rattle.ap_level.specs.Operations as on_patterns_kinds
+use Rattle.ap_level.specs.Patterns.{argument_range, argument_ranges}
 use Rattle.ap_level.specs.Patterns as on_patterns
 use Rattle.tfhe_level.specs.declared.level.TfheOp.{TfheOp}
 use Rattle.tfhe_level.specs.declared.level.TfheOp.TheVariants.{Input}
@@ -18,7 +19,6 @@ use Rattle.tfhe_level.specs.Nodes.{value_of, range_of, node_values}
 use Rattle.tfhe_level.specs.Laws.{input_range, input_ranges}
 use Rattle.place_pass.specs.declared.outlet.Outlet.{Outlet}
 use Rattle.place_pass.specs.Placing.{put_boot, put_form_switch, Placed, place_form, place_op, outlet_of}
-use Rattle.place_pass.specs.Laws.{argument_range, argument_ranges}
 use Rattle.place_pass.proofs.Solving.{sound_push, form_value_kept}
 use Rattle.forms.specs.Terms.{leaves_of}
 use Rattle.place_pass.proofs.Following.{IsGrown, grown_length, grown_result, Agrees, agrees_longer, agrees_push, AreOn, IsFormPlaced, form_placed}

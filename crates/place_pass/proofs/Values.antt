@@ -10,6 +10,7 @@ use Rattle.forms.specs.FromEarlier.{from_earlier, from_earlier-append, length-fr
 use Rattle.ap_level.specs.declared.level.ApOp.{ApOp}
 use Rattle.ap_level.specs.declared.level.ApOp.TheVariants as patterns
 use Rattle.ap_level.specs.Operations as patterns_kinds
+use Rattle.ap_level.specs.Patterns.{argument_range, argument_ranges}
 use Rattle.ap_level.specs.Patterns as on_patterns
 use Rattle.ap_level.specs.Rules.{ArePatterns}
 use Rattle.tfhe_level.specs.declared.level.TfheOp.{TfheOp}
@@ -18,7 +19,6 @@ use Rattle.tfhe_level.specs.Nodes.{value_of, node_values, at_outs, clear_values}
 use Rattle.tfhe_level.specs.Laws.{input_range, input_ranges}
 use Rattle.place_pass.specs.declared.outlet.Outlet.{Outlet}
 use Rattle.place_pass.specs.Placing.{Placed, outlet_op, whole_of, place_ops, nothing_placed, placed_nodes}
-use Rattle.place_pass.specs.Laws.{argument_range, argument_ranges}
 use Rattle.place_pass.proofs.Solving.{AreSoundFrom}
 use Rattle.place_pass.proofs.Steps.{Follows}
 use Rattle.place_pass.proofs.Walk.{AreOuts, IsDone, leafs_of, outs_of, done}

@@ -1,7 +1,7 @@
 -- What holds of the circuit of patterns.
-use Rattle.std.specs.Prelude.{◌≡◌, ℕ, List, filter_map, Option, Some, None, ℤ}
+use Rattle.std.specs.Prelude.{◌≡◌, ℕ, List, ℤ}
 use Rattle.ap_level.specs.declared.level.ApOp.{ApOp}
-use Rattle.ap_level.specs.declared.level.ApOp.TheVariants as patterns
+use Rattle.ap_level.specs.Patterns.{argument_ranges}
 use Rattle.ap_level.specs.Patterns as patterns_values
 use Rattle.ap_level.specs.Rules.{ArePatterns}
 use Rattle.ap_level.specs.Rules as patterns_rules
@@ -10,15 +10,6 @@ use Rattle.tfhe_level.specs.Rules.{message_ranges, AreNodes}
 use Rattle.tfhe_level.specs.Nodes.{clear_values}
 use Rattle.tfhe_level.specs.Laws.{input_ranges}
 use Rattle.place_pass.specs.Placing.{placed_nodes}
-
--- the range of an argument
-abbrev pub argument_range : ApOp → Option (ℤ × ℤ)
-argument_range (patterns.Input lo hi) = Some (lo, hi)
-argument_range _ = None
-
--- the ranges of the arguments, in order
-abbrev pub argument_ranges : List ApOp → List (ℤ × ℤ)
-argument_ranges operations = filter_map argument_range operations
 
 -- the circuit of patterns that keep their rules
 pub record PlaceLaws : Type 0 where

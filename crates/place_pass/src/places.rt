@@ -2,7 +2,6 @@
 
 ghost use Rattle.std.specs.Prelude.{◌≡◌, ◌<◌, ◌≤◌, ◌+◌, ◌^◌, [], length, map, take, All, OnOk, IfOk};
 ghost use Rattle.ir_core.specs.Placed.{IsPlaced};
-ghost use Rattle.forms.specs.Ranges.{range_of_entries};
 ghost use Rattle.ap_level.specs.declared.level.ApOp.TheVariants as patterns;
 ghost use Rattle.ap_level.specs.Patterns.{patterns_of};
 ghost use Rattle.ap_level.specs.Rules.{IsApProgram};
@@ -15,7 +14,7 @@ use crate::nodes::{put_boot, put_form, put_last, put_switch};
 use crate::outlet::Outlet;
 use ap_level::{ApOp, ApProgram};
 use lists::List;
-use range_pass::range_of;
+use range_pass::{range_of, range_of_entries};
 use std::alloc::{AllocError, Global};
 use tfhe_level::{Shape, TfheOp};
 
@@ -34,22 +33,6 @@ fn on_nodes(
         moved.push((leaves[leaf as usize], weight))?;
     }
     Ok(moved)
-}
-
-/// From the least to the greatest of the entries.
-fn range_of_entries(entries: &[i64]) -> (i64, i64)
-    ensures { result ≡ range_of_entries entries.now }
-{
-    let Some((first, others)) = entries.split_first() else {
-        return (0, 0);
-    };
-    let mut least = *first;
-    let mut greatest = *first;
-    for entry in others {
-        least = least.min(*entry);
-        greatest = greatest.max(*entry);
-    }
-    (least, greatest)
 }
 
 /// The circuit so far: its nodes, for each argument and look-up its node and its range, and the outs.

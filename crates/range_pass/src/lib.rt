@@ -5,6 +5,7 @@
 ghost use Rattle.std.specs.Prelude.{◌≡◌, ◌*◌, ◌≤◌, ◌↔◌, length, All, IsTrue, pos, ◌*ℤ◌, int_lt, unsigned_abs, if◌then◌else◌};
 ghost use Rattle.forms.specs.Forms.{least_of_term, greatest_of_term, form_range};
 ghost use Rattle.forms.specs.Limits.{most_weight};
+ghost use Rattle.forms.specs.Ranges.{range_of_entries};
 ghost use Rattle.range_pass.specs.Bounds.{most_end, IsSmallRange, IsSmallTerm, AreSmall, IsWide};
 
 use forms::limits::MOST_WEIGHT;
@@ -89,6 +90,22 @@ pub fn range_of(constant: i64, terms: &[(u32, i64)], ranges: &[(i64, i64)]) -> (
         let (at_least, at_most) = range_of_term(*term, ranges);
         least += i128::from(at_least);
         greatest += i128::from(at_most);
+    }
+    (least, greatest)
+}
+
+/// From the least to the greatest of the entries of a table, and 0 alone where there are none.
+pub fn range_of_entries(entries: &[i64]) -> (i64, i64)
+    ensures { result ≡ range_of_entries entries.now }
+{
+    let Some((first, others)) = entries.split_first() else {
+        return (0, 0);
+    };
+    let mut least = *first;
+    let mut greatest = *first;
+    for entry in others {
+        least = least.min(*entry);
+        greatest = greatest.max(*entry);
     }
     (least, greatest)
 }

@@ -5,8 +5,8 @@ use Rattle.std.proofs.lemmas.List.Elements.{All-contains}
 use Rattle.ir_core.specs.Graph.{Holds, place_of, numbers_of}
 use Rattle.forms.specs.Forms.{number_at}
 use Rattle.fhe_level.specs.Clearing.{IsResult, number_of}
-use Rattle.fhe_level.proofs.Values.{number_there}
-use Rattle.fhe_level.proofs.Clears.{result_there, results_more}
+use Rattle.fhe_level.specs.Standing.{number_there, result_there}
+use Rattle.fhe_level.proofs.Clears.{results_more}
 use Rattle.fhe_level.proofs.computing.clear.Goals as goal
 
 pub number_at-requires : goal.number_at-requires

@@ -1,4 +1,4 @@
-use Rattle.fhe_level.proofs.Values.{op_with-place}
+use Rattle.fhe_level.specs.Standing.{op_with-place}
 use Rattle.fhe_level.proofs.computing.op_with.Goals as goal
 
 pub returns : goal.returns

@@ -7,7 +7,8 @@ use Rattle.std.specs.List.{slice_get}
 use Rattle.std.specs.Option.{IfSome}
 use Rattle.ir_core.specs.Graph.{Holds, place_of, numbers_of}
 use Rattle.fhe_level.specs.declared.level.FheOp.{FheOp}
-use Rattle.fhe_level.proofs.Clears.{holds_more, past_all}
+use Rattle.fhe_level.specs.Standing.{past_all}
+use Rattle.fhe_level.proofs.Clears.{holds_more}
 use Rattle.fhe_level.proofs.computing.operation_numbers.Goals as goal
 
 pub loop-next-preserved : goal.loop-next-preserved

@@ -1,7 +1,7 @@
 use Rattle.std.proofs.Common.{◌≡◌, take, get_or, pos}
 use Rattle.std.specs.Prelude.{fold}
 use Rattle.std.specs.Int.{int_min, int_max}
-use Rattle.place_pass.proofs.places.range_of_entries.Given as goal
+use Rattle.range_pass.proofs.range_of_entries.Given as goal
 
 -- the ends of the entries so far
 abbrev pub invariant-loop-entry : goal.invariant-loop-entry
