@@ -11,6 +11,7 @@ use Rattle.std.proofs.lemmas.List.Elements.{All-from_recursion}
 use Rattle.std.proofs.lemmas.List.FromFn.{length-enumerate_from}
 use Rattle.std.proofs.lemmas.List.Sums.{sum_by-cons}
 use Rattle.ir_core.specs.Placed.{IsPlaced}
+use Rattle.ir_core.specs.Laws.{PlacedLaws}
 use Rattle.fhe_text.specs.declared.source.WrittenType.{WrittenType}
 use Rattle.fhe_text.specs.declared.source.WrittenType.TheVariants as types
 use Rattle.fhe_text.specs.declared.source.Arg.{Arg}
@@ -26,7 +27,7 @@ use Rattle.fhe_level.specs.declared.level.FheOp.TheVariants as ops
 use Rattle.fhe_level.specs.declared.program.Program.{Program}
 use Rattle.fhe_level.specs.Limits.{width_of, statement_width, is_look_up, limit_fault}
 use Rattle.fhe_level.specs.Rows.{row_of, keeps_row, fits_table}
-use Rattle.fhe_level.specs.Operations.{type_of}
+use Rattle.fhe_level.specs.Operations.{operands_of, type_of}
 use Rattle.fhe_level.specs.Types.{type_range, is_range_in, keeps_declared, argument_range, argument_fault, value_type, same_type, is_type_of, are_types_of, statement_fault, body_fault, same_types, return_fault, argument_types, value_types, type_fault}
 use Rattle.fhe_level.specs.Programs.{argument_op, statement_op, operations_in, numbered, program_of, typed, IsTyped}
 use Rattle.fhe_level.specs.Clearing.{op_with, type_with, KeepsRow, HasEntries, HasWidth, is_argument, is_constant, AreArguments, IsResult, IsFhe}
@@ -35,6 +36,7 @@ use Rattle.fhe_level.proofs.Widths.{fold_max_all, first_none, IsWithin, within_l
 use Rattle.fhe_level.specs.Standing.{both}
 use Rattle.fhe_level.proofs.Steps.{each_declared, when_none, type_of_statement}
 use Rattle.fhe_level.proofs.Whole.{types_of_arguments, types_of_body}
+use Rattle.fhe_level.proofs.Graphs.{program_graph}
 
 -- ---- no check fails
 
@@ -303,8 +305,8 @@ unless_test : {A : Type 0} (test : Bool) (fault : A) → cond test None (Some fa
 unless_test true fault none = refl
 unless_test false fault none = absurd cc
 
-program_checked : (source : Source) → IsSpellable source → IsWithin source → argument_fault 0 source.args ≡ None → body_fault (argument_types source.args) 0 source.body ≡ None → return_fault (value_types source) source ≡ None → IsChecked (program_of source)
-program_checked source spell within args body return =
+program_checked : PlacedLaws operands_of → (source : Source) → IsSpellable source → IsWithin source → argument_fault 0 source.args ≡ None → body_fault (argument_types source.args) 0 source.body ≡ None → return_fault (value_types source) source ≡ None → IsChecked (program_of source)
+program_checked laws source spell within args body return =
     let operations = operations_in source in
     let list = enumerate_from 0 operations in
     let declared = each_declared 0 source.args args in
@@ -327,15 +329,16 @@ program_checked source spell within args body return =
     record {
       fhe = fhe;
       placed = all_placed operations;
+      graph = program_graph laws source spell within (all_placed operations) fhe.rows;
       inputs = omega (arith, within.arguments, length-map source.args argument_range);
       some_result = omega (arith, spell.returned.0);
       results = omega (arith, within.results, count, others);
       look_ups = omega (arith, within.look_ups, all_looks 0 source.args source.body);
     }
 
-pub checked : (source : Source) (program : Program) → IsSpellable source → limit_fault source ≡ None → IsTyped source program → IsChecked program
-checked source program spell limits typed_so =
+pub checked : PlacedLaws operands_of → (source : Source) (program : Program) → IsSpellable source → limit_fault source ≡ None → IsTyped source program → IsChecked program
+checked laws source program spell limits typed_so =
     let ok = typed_ok source (type_fault source) program typed_so in
     let outer = first_none _ _ ok.0 in
     let inner = first_none _ _ outer.0 in
-    subst IsChecked ok.1 (program_checked source spell (within_limits source limits) inner.0 inner.1 outer.1)
+    subst IsChecked ok.1 (program_checked laws source spell (within_limits source limits) inner.0 inner.1 outer.1)

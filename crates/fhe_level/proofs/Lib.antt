@@ -5,4 +5,5 @@ pub mod Whole
 pub mod Values
 pub mod Entries
 pub mod Clears
+pub mod Graphs
 pub mod Checked

@@ -2,6 +2,8 @@
 
 ghost use Rattle.fhe_level.specs.Laws.{ValueLaws, CheckLaws};
 
+use crate::FheLevel;
+
 /// The value of an operation comes from the values of its operands, wherever it stands in the graph.
 #[inline]
 pub fn laws()
@@ -13,4 +15,6 @@ pub fn laws()
 #[inline]
 pub fn checked()
     ensures { CheckLaws }
-{}
+{
+    ir_core::laws::laws::<FheLevel>();
+}
