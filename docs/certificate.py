@@ -1,6 +1,8 @@
 #!/usr/bin/env python3
 """Checks a certificate apart from the program: python3 docs/certificate.py TABLE CIRCUIT CERTIFICATE
 
+Without CERTIFICATE it prints the one that it worked out.
+
 It reads the table (TOML), the nodes of the circuit, and the certificate, works out the cost and the bounds of every choice
 by the rules in docs/FORMATS.md, and compares the certificate with what it worked out, line by line. Where the certificate
 has a chosen choice, the circuit's parameters must be that choice's. It needs nothing but the standard library."""
@@ -150,13 +152,16 @@ def certificate_of(weights, lists, width, operations):
 
 
 def main():
-    table, circuit, certificate = (open(name, encoding="utf-8").read() for name in sys.argv[1:4])
+    table, circuit = (open(name, encoding="utf-8").read() for name in sys.argv[1:3])
     weights, lists = read_table(table)
     width, params, operations = read_circuit(circuit)
     lines, chosen = certificate_of(weights, lists, width, operations)
     if chosen is not None and [list(part) for part in chosen] != params:
         sys.exit("the circuit has other parameters than the chosen choice")
-    found = certificate.split("\n")
+    if len(sys.argv) < 4:
+        print("\n".join(lines))
+        return
+    found = open(sys.argv[3], encoding="utf-8").read().split("\n")
     for at, (line, want) in enumerate(zip(found + [None], lines + [""]), start=1):
         if line != want:
             sys.exit(f"line {at}: {line!r}, and not {want!r}")

@@ -1,3 +1,4 @@
+pub mod Limits
 pub mod Certificate
 pub mod Check
 pub mod Laws

@@ -9,9 +9,12 @@ ghost use Rattle.forms.specs.Limits.{most_width};
 ghost use Rattle.fhe_params.specs.Params.{IsParams};
 ghost use Rattle.fhe_params.specs.Table.{IsTable, IsChoice, params_of};
 ghost use Rattle.tfhe_level.specs.Nodes.{nodes_of};
+ghost use Rattle.tfhe_level.specs.Rules.{IsShape};
 ghost use Rattle.param_search.specs.Search.{found_of};
+ghost use Rattle.cost_cert.specs.Limits.{cert_limit};
 ghost use Rattle.cost_cert.specs.Certificate.{weights_line, counts_line, choice_text, place_text, constraint_line, refused_line, node_line, nodes_text, bounds_text, chosen_line, chosen_text, certificate_of, certificate_text};
 
+use crate::laws::laws;
 use fhe_params::{Choice, CostWeights, Counts, Params, Table, cost};
 use noise_model::{BoundRoom, Broken, Constraint, edge_bounds, noise_constraints, size_constraint};
 use param_search::{Found, Refused};
@@ -224,20 +227,22 @@ fn text_of(alloc: Global, shape: &Shape, table: &Table, found: &Found) -> Result
 /// The one certificate of a circuit's shape and a table, out of what the search found: what weighs how much, how much the
 /// circuit does, its width, each refused choice with its cost and the first constraint that it breaks, and the chosen one
 /// with its cost, the size of its keys, the bound of each node and each constraint with its limit. Bounds are given as 2^64
-/// at most. It fails only for memory.
+/// at most. The text has at most 2^24 bytes. It fails only for memory.
 pub fn print_cert(
     alloc: Global,
     shape: &Shape,
     table: &Table,
     found: &Found,
 ) -> Result<Vec<u8>, AllocError>
-    requires placed { IsPlaced shape.now.graph }
-    requires width { shape.now.width ≤ most_width }
+    requires shape { IsShape shape.now }
     requires table { IsTable table.now }
     requires found { found.now ≡ found_of table.now shape.now }
-    ensures { IfOk result (λ text. text.items ≡ certificate_text table.now shape.now) }
+    ensures spelled { IfOk result (λ text. text.items ≡ certificate_text table.now shape.now) }
+    // So it can be read back from a file.
+    ensures size { IfOk result (λ text. length text.items ≤ cert_limit) }
 {
     param_search::laws::laws();
+    laws();
     let text = text_of(alloc, shape, table, found)?;
     Ok(text.into_bytes())
 }

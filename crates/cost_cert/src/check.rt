@@ -1,11 +1,10 @@
-//! Checking that bytes are the one certificate.
+//! Checking that bytes are the one certificate, and telling where two texts differ.
 
-ghost use Rattle.std.specs.Prelude.{◌≡◌, ◌+◌, ◌≤◌, length, count_by};
-ghost use Rattle.ir_core.specs.Placed.{IsPlaced};
-ghost use Rattle.forms.specs.Limits.{most_width};
+ghost use Rattle.std.specs.Prelude.{◌≡◌, ◌+◌, ◌≤◌, length, count_by, Some, None, if◌then◌else◌};
 ghost use Rattle.fhe_params.specs.Table.{IsTable};
+ghost use Rattle.tfhe_level.specs.Rules.{IsShape};
 ghost use Rattle.cost_cert.specs.declared.check.CertRefusal.TheVariants.{Memory};
-ghost use Rattle.cost_cert.specs.Check.{file_limit, common_prefix, is_line_feed, line_apart, check_of, Answers};
+ghost use Rattle.cost_cert.specs.Check.{file_limit, common_prefix, is_same, is_line_feed, line_apart, check_of, Answers};
 
 use crate::certificate::print_cert;
 use fhe_params::{Choice, Table};
@@ -65,6 +64,19 @@ fn line_after(text: &[u8], bytes: &[u8], same: usize) -> u32
     line_feeds(&text[..same]) + 1
 }
 
+/// The first line, counted from 1, in which two texts differ, or that there is none: then they are the same. The second
+/// has at most 2^29 bytes. Both are read up to there and not further.
+pub fn line_apart(text: &[u8], bytes: &[u8]) -> Option<u32>
+    requires { length bytes.now ≤ file_limit }
+    ensures { result ≡ (if is_same text.now bytes.now then None else Some (line_apart text.now bytes.now)) }
+{
+    let same = common_length(text, bytes);
+    if same == text.len() && same == bytes.len() {
+        return None;
+    }
+    Some(line_after(text, bytes, same))
+}
+
 /// Whether the bytes are the one certificate of a circuit's shape and a table: then the chosen choice, or that there is
 /// none, and else the first line that differs. Both texts are read up to there and not further. It refuses nothing else
 /// but for memory.
@@ -75,17 +87,15 @@ pub fn check_cert(
     table: &Table,
     bytes: &[u8],
 ) -> Result<Option<Choice>, CertRefusal>
-    requires placed { IsPlaced shape.now.graph }
-    requires width { shape.now.width ≤ most_width }
+    requires shape { IsShape shape.now }
     requires table { IsTable table.now }
     requires length { length bytes.now ≤ file_limit }
     ensures { Answers result (check_of table.now shape.now bytes.now) }
 {
     let found = search(alloc, shape, table)?;
     let text = print_cert(alloc, shape, table, &found)?;
-    let same = common_length(&text, bytes);
-    if same == text.len() && same == bytes.len() {
-        return Ok(found.chosen);
+    match line_apart(&text, bytes) {
+        Some(line) => Err(CertRefusal::Line(line)),
+        None => Ok(found.chosen),
     }
-    Err(CertRefusal::Line(line_after(&text, bytes, same)))
 }

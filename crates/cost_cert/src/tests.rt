@@ -1,20 +1,18 @@
 //! Certificates of worked circuits and tables, byte for byte, and what is not one.
 
-ghost use Rattle.std.specs.Prelude.{IfOk, ◌≡◌, ◌≤◌};
-ghost use Rattle.ir_core.specs.Placed.{IsPlaced};
+ghost use Rattle.std.specs.Prelude.{IfOk, ◌≤◌};
 ghost use Rattle.fhe_params.specs.Table.{IsTable};
-ghost use Rattle.forms.specs.Limits.{most_width};
+ghost use Rattle.tfhe_level.specs.Rules.{IsShape};
 ghost use Rattle.cost_cert.specs.Check.{file_limit};
 
 use super::*;
+use circuit_file::{CircuitRefusal, read_circuit};
 use fhe_params::{Choice, Table, TableRefusal, read_table};
-use ir_core::Level;
-use lists::List;
 use param_search::search;
 use std::alloc::Global;
 use std::process::Abort;
 use std::test::Fail;
-use tfhe_level::{Shape, TfheLevel, TfheOp};
+use tfhe_level::{Circuit, Shape};
 
 const COST: &str = "[cost]\nswitch = 1\nboot = 1\nlin = 1\n";
 
@@ -30,7 +28,22 @@ const BOOT: &str = "[[boot]]\nbase = 8\nlevel = 4\n";
 
 const SWITCH: &str = "[[switch]]\nbase = 4\nlevel = 6\n";
 
-/// A look-up of width 2, and the one choice of a table.
+/// A look-up of width 2, with parameters that play no part here.
+const LOOKUP_2: &str =
+    "fhec circuit 1\nwidth 2\nglwe 1 8 4 1024\nlwe 8 2 1048576\nboot 8 4\nswitch 4 6\n%0 = input 0 3\n\
+    %1 = switch %0\n%2 = boot %1 1 3 0 2\nout %2 0 3\nend\n";
+
+/// One of width 3.
+const LOOKUP_3: &str =
+    "fhec circuit 1\nwidth 3\nglwe 1 8 4 1024\nlwe 8 2 1048576\nboot 8 4\nswitch 4 6\n%0 = input 0 7\n\
+    %1 = switch %0\n%2 = boot %1 1 3 0 2 7 5 6 4\nout %2 0 7\nend\n";
+
+/// The sum of two inputs.
+const TWO_INPUTS: &str =
+    "fhec circuit 1\nwidth 2\nglwe 1 1 1 3\nlwe 1 0 0\nboot 1 1\nswitch 1 1\n%0 = input 0 1\n%1 = input 0 2\n\
+    %2 = lin 0 1 %0 1 %1\nout %2 0 3\nend\n";
+
+/// The look-up of width 2, and the one choice of a table.
 const CHOSEN: &str = "fhec certificate 1
 weights 1 1 1
 shape 1 1 0
@@ -45,7 +58,7 @@ result 0 23622320128 1152921504606846976
 end
 ";
 
-/// A look-up of width 3, and a table in which none meets all constraints.
+/// The look-up of width 3, and a table in which none meets all constraints.
 const NONE: &str = "fhec certificate 1
 weights 1 1 1
 shape 1 1 0
@@ -72,7 +85,7 @@ result 0 23622320128 576460752303423488
 end
 ";
 
-/// The sum of two inputs, which has no keys.
+/// The sum, which has no keys.
 const SUM: &str = "fhec certificate 1
 weights 1 1 1
 shape 0 0 2
@@ -100,51 +113,16 @@ fn table(rt: &(impl Abort + AllocGlobal), parts: &[&str]) -> Result<Table, Fail>
     }
 }
 
-/// Adds an operation, whose operands are there.
-fn add(rt: &(impl Abort + AllocGlobal), shape: &mut Shape, op: TfheOp) -> Result<u32, Fail>
-    requires { IsPlaced shape.old.graph }
-    ensures placed { IsPlaced shape.new.graph }
-    ensures width { shape.new.width ≡ shape.old.width }
+/// The shape of the circuit that a text spells.
+fn shape_of(rt: &(impl Abort + AllocGlobal), text: &str) -> Result<Shape, Fail>
+    ensures { IfOk result IsShape }
 {
-    let count = shape.node_count();
-    assert!(rt; count < 1000);
-    let arity = TfheLevel::arity(&op);
-    assert!(rt; arity < 1000);
-    for at in 0..arity {
-        assert!(rt; TfheLevel::operand(&op, at) < count);
+    assert!(rt; text.len() < 1000);
+    match read_circuit(rt.alloc(), text.as_bytes()) {
+        Ok(Circuit { shape, .. }) => Ok(shape),
+        Err(CircuitRefusal::Fault(_)) => Err(Fail::new("a circuit that is refused")),
+        Err(CircuitRefusal::Memory) => Err(Fail::new("no memory")),
     }
-    Ok(shape.push(op)?)
-}
-
-/// An out of a range from 0.
-fn out(source: u32, hi: i64) -> TfheOp {
-    TfheOp::Out { source, lo: 0, hi }
-}
-
-/// A look-up of four entries.
-fn lookup(rt: &(impl Abort + AllocGlobal), width: u32) -> Result<Shape, Fail>
-    ensures { IfOk result (λ shape. IsPlaced shape.graph × (shape.width ≡ width)) }
-{
-    let mut shape = Shape::new(rt.alloc(), width);
-    add(rt, &mut shape, TfheOp::Input { lo: 0, hi: 3 })?;
-    add(rt, &mut shape, TfheOp::Switch { source: 0 })?;
-    let entries = List::from_vec([1, 3, 0, 2].to_vec(rt.alloc())?);
-    add(rt, &mut shape, TfheOp::Boot { source: 1, entries })?;
-    add(rt, &mut shape, out(2, 3))?;
-    Ok(shape)
-}
-
-/// The sum of two inputs.
-fn sum(rt: &(impl Abort + AllocGlobal)) -> Result<Shape, Fail>
-    ensures { IfOk result (λ shape. IsPlaced shape.graph × (shape.width ≡ 2)) }
-{
-    let mut shape = Shape::new(rt.alloc(), 2);
-    add(rt, &mut shape, TfheOp::Input { lo: 0, hi: 1 })?;
-    add(rt, &mut shape, TfheOp::Input { lo: 0, hi: 2 })?;
-    let terms = List::from_vec([(0, 1), (1, 1)].to_vec(rt.alloc())?);
-    add(rt, &mut shape, TfheOp::Lin { constant: 0, terms })?;
-    add(rt, &mut shape, out(2, 3))?;
-    Ok(shape)
 }
 
 /// The certificate of a circuit and a table is this text, and only this text passes the check.
@@ -155,14 +133,12 @@ fn expect(
     text: &str,
     chosen: Option<Choice>,
 ) -> Result<(), Fail>
-    requires placed { IsPlaced shape.now.graph }
-    requires width { shape.now.width ≤ most_width }
+    requires { IsShape shape.now }
 {
     let table = table(rt, parts)?;
     let found = search(rt.alloc(), shape, &table)?;
     let bytes = print_cert(rt.alloc(), shape, &table, &found)?;
     assert_eq!(rt; bytes.as_slice(), text.as_bytes());
-    assert!(rt; bytes.len() < 1000);
     let checked = check_cert(rt.alloc(), shape, &table, &bytes);
     assert_eq!(rt; checked, Ok(chosen));
     Ok(())
@@ -176,8 +152,7 @@ fn expect_line(
     bytes: &[u8],
     line: u32,
 ) -> Result<(), Fail>
-    requires placed { IsPlaced shape.now.graph }
-    requires width { shape.now.width ≤ most_width }
+    requires { IsShape shape.now }
 {
     assert!(rt; bytes.len() < 1000);
     let checked = check_cert(rt.alloc(), shape, &table(rt, parts)?, bytes);
@@ -198,19 +173,19 @@ fn at(glwe: u32) -> Choice {
 #[test]
 fn certificates_of_worked_circuits(rt: HostRuntime) -> Result<(), Fail> {
     let parts = [COST, N_256, LWE, BOOT, SWITCH];
-    expect(&rt, &lookup(&rt, 2)?, &parts, CHOSEN, Some(at(0)))?;
+    expect(&rt, &shape_of(&rt, LOOKUP_2)?, &parts, CHOSEN, Some(at(0)))?;
     let parts = [COST, N_16, LWE, BOOT, SWITCH];
-    expect(&rt, &lookup(&rt, 3)?, &parts, NONE, None)?;
+    expect(&rt, &shape_of(&rt, LOOKUP_3)?, &parts, NONE, None)?;
     let parts = [COST, N_256, N_16, LWE, BOOT, SWITCH];
-    expect(&rt, &lookup(&rt, 3)?, &parts, REFUSED, Some(at(0)))?;
+    expect(&rt, &shape_of(&rt, LOOKUP_3)?, &parts, REFUSED, Some(at(0)))?;
     let parts = [COST, N_2, LWE, BOOT, SWITCH];
-    expect(&rt, &sum(&rt)?, &parts, SUM, Some(at(0)))
+    expect(&rt, &shape_of(&rt, TWO_INPUTS)?, &parts, SUM, Some(at(0)))
 }
 
 #[test]
 fn the_first_line_that_differs_is_told(rt: HostRuntime) -> Result<(), Fail> {
     let parts = [COST, N_256, LWE, BOOT, SWITCH];
-    let shape = lookup(&rt, 2)?;
+    let shape = shape_of(&rt, LOOKUP_2)?;
     // Nothing, the last line feed cut, a line more.
     expect_line(&rt, &shape, &parts, b"", 1)?;
     let text = CHOSEN.as_bytes();
@@ -230,5 +205,33 @@ fn the_first_line_that_differs_is_told(rt: HostRuntime) -> Result<(), Fail> {
     let exchanged =
         "fhec certificate 1\nweights 1 1 1\nshape 1 1 0\nwidth 3\nchosen 0 0 0 0 cost 275968\n\
         refused 1 0 0 0 cost 9056 boot 0 864693328283698176 576460752303423488\n";
-    expect_line(&rt, &lookup(&rt, 3)?, &parts, exchanged.as_bytes(), 5)
+    expect_line(
+        &rt,
+        &shape_of(&rt, LOOKUP_3)?,
+        &parts,
+        exchanged.as_bytes(),
+        5,
+    )
+}
+
+#[test]
+fn lines_of_any_two_texts(rt: HostRuntime) -> Result<(), Fail> {
+    let table = [
+        ("", "", None),
+        ("", "\n", Some(1)),
+        ("one\ntwo\n", "one\ntwo\n", None),
+        ("one\ntwo\n", "one\ntwo", Some(2)),
+        ("one\ntwo\n", "one\ntwo\nthree", Some(3)),
+        ("one\ntwo\n", "One\ntwo\n", Some(1)),
+        ("one\n\ntwo\n", "one\ntwo\n", Some(2)),
+    ];
+    for (text, other, line) in table {
+        assert!(rt; other.len() < 1000);
+        assert_eq!(rt;
+            line_apart(text.as_bytes(), other.as_bytes()),
+            line,
+            "{text} {other}"
+        );
+    }
+    Ok(())
 }

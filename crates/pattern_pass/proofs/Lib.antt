@@ -1,0 +1,15 @@
+pub mod Sound
+pub mod Placing
+pub mod Counted
+pub mod NewLook
+pub mod Kept
+pub mod Walked
+pub mod Leaves
+pub mod Tables
+pub mod Numbers
+pub mod Summed
+pub mod Valued
+pub mod Results
+pub mod Reached
+pub mod Finding
+pub mod Formed

@@ -1,0 +1,4 @@
+pub mod Sharing
+pub mod Here
+pub mod Going
+pub mod Given

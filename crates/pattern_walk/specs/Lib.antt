@@ -1,0 +1,11 @@
+pub mod Sums
+pub mod Looking
+pub mod Walking
+pub mod Safe
+pub mod Patterns
+pub mod Putting
+pub mod Building
+pub mod Places
+pub mod Passing
+pub mod Keeping
+pub mod Stepping
