@@ -1,0 +1,4 @@
+pub mod Shapes
+pub mod Front
+pub mod Back
+pub mod Laws
