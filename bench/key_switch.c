@@ -1,10 +1,9 @@
-// A key switch by plain loops, timed: prints nanoseconds a switch.
+// A key switch by plain loops, timed: prints nanoseconds a switch. The shape is given to the compiler: D (the dimension of
+// what is switched), N (that of the result), BASE, LEVEL and ROUNDS.
 #include <stdint.h>
 #include <stdio.h>
 #include <stdlib.h>
 #include <time.h>
-
-enum { D = 1024, N = 128, BASE = 4, LEVEL = 4, ROUNDS = 400 };
 
 static void digits_into(int64_t *out, uint64_t word, int base, int level) {
     uint64_t halves = 0;

@@ -86,7 +86,7 @@ fn main(rt: HostRuntime) -> io::Result<()> {
 RATTLE
 cd "$temp/crates/switch_timing"
 rt run > "$temp/first.txt" 2>&1 || { cat "$temp/first.txt"; exit 1; }
-clang -O3 -march=x86-64-v2 -o "$temp/plain" "$here/key_switch.c"
+clang -O3 -march=x86-64-v2 -DD=1024 -DN=128 -DBASE=4 -DLEVEL=4 -DROUNDS=400 -o "$temp/plain" "$here/key_switch.c"
 program=$(find out -maxdepth 1 -type f -perm -u+x | head -n 1)
 [ "$("$program" | cut -d' ' -f2)" = "$("$temp/plain" | cut -d' ' -f2)" ] || { echo "the words differ"; exit 1; }
 best_program=

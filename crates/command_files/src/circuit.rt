@@ -16,7 +16,7 @@ use std::alloc::Global;
 use tfhe_level::Circuit;
 
 /// The most bytes of a circuit text.
-const CIRCUIT_LIMIT: u64 = 1 << 27;
+pub const CIRCUIT_LIMIT: u64 = 1 << 27;
 
 /// The circuit in a text.
 fn circuit_in(alloc: Global, text: &[u8]) -> Result<Circuit, Refusal<Fault>>

@@ -11,7 +11,7 @@ mod secret;
 mod values;
 
 pub use cipher::cipher_from;
-pub use circuit::circuit_from;
+pub use circuit::{CIRCUIT_LIMIT, circuit_from};
 pub use eval::{eval_from, fits_eval};
 pub use secret::secret_from;
 pub use values::values_from;

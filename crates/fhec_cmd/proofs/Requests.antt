@@ -6,12 +6,16 @@ use Rattle.port_store.specs.Files.{Bytes}
 use Rattle.command_forms.specs.Names.{are_distinct}
 use Rattle.key_commands.specs.Words.{KeygenWords, keygen_files, EncryptWords, encrypt_files, DecryptWords, decrypt_files}
 use Rattle.run_command.specs.Words.{RunWords, run_files}
+use Rattle.program_commands.specs.Words.{CompileWords, compile_files, ClearWords, clear_files}
 use Rattle.fhec_cmd.specs.Seed.{seed_of}
-use Rattle.fhec_cmd.specs.CommandLine.{Request, faulty, keygen, encrypt, run, decrypt, keygen_with, keygen_of, encrypt_with, encrypt_of, run_of, decrypt_of, request_of}
+use Rattle.fhec_cmd.specs.CommandLine.{Request, faulty, compile, check, clear, keygen, encrypt, run, decrypt, compile_of, check_of, clear_of, keygen_with, keygen_of, encrypt_with, encrypt_of, run_of, decrypt_of, request_of}
 
 -- the names of a request's files
 pub AreApart : Request → Type 0
 AreApart faulty = Unit {0}
+AreApart (compile words) = are_distinct (compile_files words) ≡ true
+AreApart (check words) = are_distinct (compile_files words) ≡ true
+AreApart (clear words) = are_distinct (clear_files words) ≡ true
 AreApart (keygen words) = are_distinct (keygen_files words) ≡ true
 AreApart (encrypt words) = are_distinct (encrypt_files words) ≡ true
 AreApart (run words) = are_distinct (run_files words) ≡ true
@@ -25,6 +29,37 @@ checked false request apart = tt
 either : (b : Bool) (one other : Request) → AreApart one → AreApart other → AreApart (cond b one other)
 either true one other first last = first
 either false one other first last = last
+
+compile_apart : (words : List Bytes) → AreApart (compile_of words)
+unfolding AreApart
+compile_apart [] = tt
+compile_apart (a ∷ []) = tt
+compile_apart (a ∷ b ∷ []) = tt
+compile_apart (a ∷ b ∷ c ∷ []) = tt
+compile_apart (program ∷ table ∷ circuit ∷ cert ∷ []) =
+    let words : CompileWords = record { program = program; table = table; circuit = circuit; cert = cert } in
+    checked (are_distinct (compile_files words)) (compile words) (λ e. e)
+compile_apart (a ∷ b ∷ c ∷ d ∷ e ∷ more) = tt
+
+check_apart : (words : List Bytes) → AreApart (check_of words)
+unfolding AreApart
+check_apart [] = tt
+check_apart (a ∷ []) = tt
+check_apart (a ∷ b ∷ []) = tt
+check_apart (a ∷ b ∷ c ∷ []) = tt
+check_apart (program ∷ table ∷ circuit ∷ cert ∷ []) =
+    let words : CompileWords = record { program = program; table = table; circuit = circuit; cert = cert } in
+    checked (are_distinct (compile_files words)) (check words) (λ e. e)
+check_apart (a ∷ b ∷ c ∷ d ∷ e ∷ more) = tt
+
+clear_apart : (words : List Bytes) → AreApart (clear_of words)
+unfolding AreApart
+clear_apart [] = tt
+clear_apart (a ∷ []) = tt
+clear_apart (program ∷ values ∷ []) =
+    let words : ClearWords = record { program = program; values = values } in
+    checked (are_distinct (clear_files words)) (clear words) (λ e. e)
+clear_apart (a ∷ b ∷ c ∷ more) = tt
 
 keygen_seed : (circuit : Bytes) (seed : Option Bytes) (secret eval : Bytes) → AreApart (keygen_with circuit seed secret eval)
 unfolding AreApart
@@ -83,12 +118,27 @@ pub apart : (words : List Bytes) → AreApart (request_of words)
 unfolding AreApart
 apart [] = tt
 apart (command ∷ words) =
-    either (bytes_eq command (codes "keygen")) (keygen_of words) _ (keygen_apart words)
+    either (bytes_eq command (codes "compile")) (compile_of words) _ (compile_apart words)
+    (either (bytes_eq command (codes "check")) (check_of words) _ (check_apart words)
+    (either (bytes_eq command (codes "clear")) (clear_of words) _ (clear_apart words)
+    (either (bytes_eq command (codes "keygen")) (keygen_of words) _ (keygen_apart words)
     (either (bytes_eq command (codes "encrypt")) (encrypt_of words) _ (encrypt_apart words)
     (either (bytes_eq command (codes "run")) (run_of words) _ (run_apart words)
-    (either (bytes_eq command (codes "decrypt")) (decrypt_of words) faulty (decrypt_apart words) tt)))
+    (either (bytes_eq command (codes "decrypt")) (decrypt_of words) faulty (decrypt_apart words) tt))))))
 
 -- what each command asks of its names
+pub compile_distinct : (words : CompileWords) (request : Request) → compile words ≡ request → AreApart request → are_distinct (compile_files words) ≡ true
+unfolding AreApart
+compile_distinct words request same given = subst AreApart (sym same) given
+
+pub check_distinct : (words : CompileWords) (request : Request) → check words ≡ request → AreApart request → are_distinct (compile_files words) ≡ true
+unfolding AreApart
+check_distinct words request same given = subst AreApart (sym same) given
+
+pub clear_distinct : (words : ClearWords) (request : Request) → clear words ≡ request → AreApart request → are_distinct (clear_files words) ≡ true
+unfolding AreApart
+clear_distinct words request same given = subst AreApart (sym same) given
+
 pub keygen_distinct : (words : KeygenWords) (request : Request) → keygen words ≡ request → AreApart request → are_distinct (keygen_files words) ≡ true
 unfolding AreApart
 keygen_distinct words request same given = subst AreApart (sym same) given

@@ -5,15 +5,40 @@ use Rattle.port_store.specs.Files.{Bytes}
 use Rattle.command_forms.specs.Names.{are_distinct}
 use Rattle.key_commands.specs.Words.{KeygenWords, keygen_files, EncryptWords, encrypt_files, DecryptWords, decrypt_files}
 use Rattle.run_command.specs.Words.{RunWords, run_files}
+use Rattle.program_commands.specs.Words.{CompileWords, compile_files, ClearWords, clear_files}
 use Rattle.fhec_cmd.specs.Seed.{seed_of}
 
 -- a command line: none of the table of commands, or one of them
 pub data Request : Type 0 where
   faulty : Request
+  compile : CompileWords → Request
+  check : CompileWords → Request
+  clear : ClearWords → Request
   keygen : KeygenWords → Request
   encrypt : EncryptWords → Request
   run : RunWords → Request
   decrypt : DecryptWords → Request
+
+-- the words after `compile`: PROGRAM TABLE CIRCUIT CERT
+abbrev pub compile_of : List Bytes → Request
+compile_of (program ∷ table ∷ circuit ∷ cert ∷ []) =
+    let words : CompileWords = record { program = program; table = table; circuit = circuit; cert = cert } in
+    if are_distinct (compile_files words) then compile words else faulty
+compile_of _ = faulty
+
+-- the words after `check`: PROGRAM TABLE CIRCUIT CERT
+abbrev pub check_of : List Bytes → Request
+check_of (program ∷ table ∷ circuit ∷ cert ∷ []) =
+    let words : CompileWords = record { program = program; table = table; circuit = circuit; cert = cert } in
+    if are_distinct (compile_files words) then check words else faulty
+check_of _ = faulty
+
+-- the words after `clear`: PROGRAM VALUES
+abbrev pub clear_of : List Bytes → Request
+clear_of (program ∷ values ∷ []) =
+    let words : ClearWords = record { program = program; values = values } in
+    if are_distinct (clear_files words) then clear words else faulty
+clear_of _ = faulty
 
 -- `keygen` with a seed
 abbrev pub keygen_with : Bytes → Option Bytes → Bytes → Bytes → Request
@@ -58,7 +83,10 @@ decrypt_of _ = faulty
 abbrev pub request_of : List Bytes → Request
 request_of [] = faulty
 request_of (command ∷ words) =
-    if bytes_eq command (codes "keygen") then keygen_of words
+    if bytes_eq command (codes "compile") then compile_of words
+    else if bytes_eq command (codes "check") then check_of words
+    else if bytes_eq command (codes "clear") then clear_of words
+    else if bytes_eq command (codes "keygen") then keygen_of words
     else if bytes_eq command (codes "encrypt") then encrypt_of words
     else if bytes_eq command (codes "run") then run_of words
     else if bytes_eq command (codes "decrypt") then decrypt_of words

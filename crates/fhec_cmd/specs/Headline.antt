@@ -1,4 +1,5 @@
--- The headline: what `run` writes decrypts to the values of the circuit on whole numbers.
+-- The headline: what `run` writes decrypts to the values of the circuit on whole numbers, and what `compile` writes computes
+-- the program at the least cost.
 use Rattle.std.specs.Prelude.{◌≡◌, Bool, List, Some, Ok, ℤ}
 use Rattle.port_store.specs.Files.{Files}
 use Rattle.tfhe_level.specs.Nodes.{nodes_of, clear_values}
@@ -13,7 +14,8 @@ use Rattle.key_commands.specs.Decrypt.{decrypted_text}
 use Rattle.run_command.specs.Words.{RunWords}
 use Rattle.run_command.specs.Run.{output_file}
 use Rattle.run_command.specs.Headline.{RunIsRight}
-use Rattle.fhec_cmd.specs.CommandLine.{Request, faulty, keygen, encrypt, run, decrypt}
+use Rattle.program_commands.specs.Headline.{IsCompiled}
+use Rattle.fhec_cmd.specs.CommandLine.{Request, faulty, compile, check, clear, keygen, encrypt, run, decrypt}
 
 -- what a run wrote is decrypted, by every secret key that its keys fit, to the values of the circuit, where its inputs
 -- stand for values in their ranges within the error of fresh ciphertexts
@@ -27,6 +29,9 @@ IsDecrypted ran =
 -- what the answer Ok of a command promises beside its outcome, over a store that tells its files
 abbrev pub Promise : Request → Files → Files → Type 0
 Promise (run words) before after = (ran : RunIsRight words before after) × IsDecrypted ran
+Promise (compile words) before after = IsCompiled words before after
+Promise (check words) before after = Unit {0}
+Promise (clear words) before after = Unit {0}
 Promise (keygen words) before after = Unit {0}
 Promise (encrypt words) before after = Unit {0}
 Promise (decrypt words) before after = Unit {0}

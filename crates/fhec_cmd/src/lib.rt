@@ -1,7 +1,8 @@
 //! The commands of fhec over a store of files and a sink of bytes.
 //!
 //! One call does the command that its words are. What it answers and leaves is one function of the words and the files
-//! (`outcome_of`), and what a run writes decrypts to the values of its circuit (the headline).
+//! (`outcome_of`), what a run writes decrypts to the values of its circuit, and what `compile` writes computes its
+//! program at the least cost (the headline).
 #![tactic(auto)]
 
 ghost use Rattle.std.specs.Prelude.{◌≡◌, map};
@@ -22,6 +23,9 @@ use key_commands::decrypt::decrypt;
 use key_commands::encrypt::encrypt;
 use key_commands::keygen::keygen;
 use port_store::{Sink, Store};
+use program_commands::check::check;
+use program_commands::clear::clear;
+use program_commands::compile::compile;
 use run_command::run;
 use std::alloc::Global;
 use words::{Request, parse};
@@ -44,7 +48,8 @@ pub fn fhec<S: Store, O: Sink>(
         (outside (store_at S.files S.shown S.read_faults S.write_faults store.old) O.taken O.put_faults out.old)
         (outside (store_at S.files S.shown S.read_faults S.write_faults store.new) O.taken O.put_faults out.new) }
     // The headline: over a store that tells its files, what a run that answers Ok writes decrypts to the values of
-    // its circuit on whole numbers, whatever its inputs stand for.
+    // its circuit on whole numbers, whatever its inputs stand for; and the circuit that `compile` writes where it answers
+    // Ok computes the program, meets all constraints, and no cheaper choice of the table does.
     ensures headline { Headline (request_of (map string_bytes words.now)) result
         (outside (store_at S.files S.shown S.read_faults S.write_faults store.old) O.taken O.put_faults out.old)
         (outside (store_at S.files S.shown S.read_faults S.write_faults store.new) O.taken O.put_faults out.new) }
@@ -52,6 +57,9 @@ pub fn fhec<S: Store, O: Sink>(
     key_flow::laws::laws();
     match parse(words) {
         Request::Faulty => Status::Usage,
+        Request::Compile(names) => compile(alloc, store, out, &names),
+        Request::Check(names) => check(alloc, store, out, &names),
+        Request::Clear(names) => clear(alloc, store, out, &names),
         Request::Keygen(names) => keygen(alloc, store, out, &names),
         Request::Encrypt(names) => encrypt(alloc, store, out, &names),
         Request::Run(names) => run(alloc, store, out, &names),
@@ -60,4 +68,8 @@ pub fn fhec<S: Store, O: Sink>(
 }
 
 #[cfg(test)]
+mod program_tests;
+#[cfg(test)]
 mod tests;
+#[cfg(test)]
+mod worked;

@@ -5,7 +5,7 @@ ghost use Rattle.std.specs.String.{string_bytes};
 ghost use Rattle.command_forms.specs.Names.{are_distinct};
 ghost use Rattle.key_commands.specs.Words.{keygen_view, keygen_files};
 ghost use Rattle.run_command.specs.Words.{run_view, run_files};
-ghost use Rattle.fhec_cmd.specs.CommandLine.{request_of, keygen_of, encrypt_of, run_of, decrypt_of};
+ghost use Rattle.fhec_cmd.specs.CommandLine.{request_of, compile_of, check_of, clear_of, keygen_of, encrypt_of, run_of, decrypt_of};
 ghost use Rattle.fhec_cmd.specs.CommandView.{request_view};
 
 use crate::seed::seed_of;
@@ -13,6 +13,8 @@ use command_forms::{are_distinct, is_no_eval};
 use key_commands::decrypt::DecryptNames;
 use key_commands::encrypt::EncryptNames;
 use key_commands::keygen::KeygenNames;
+use program_commands::clear::ClearNames;
+use program_commands::compile::CompileNames;
 use run_command::RunNames;
 
 /// A command line.
@@ -20,6 +22,9 @@ use run_command::RunNames;
 pub(crate) enum Request<'a> {
     /// The words are no command of the table, or two of its files have one name.
     Faulty,
+    Compile(CompileNames<'a>),
+    Check(CompileNames<'a>),
+    Clear(ClearNames<'a>),
     Keygen(KeygenNames<'a>),
     Encrypt(EncryptNames<'a>),
     Run(RunNames<'a>),
@@ -34,11 +39,59 @@ pub(crate) fn parse(words: &[String]) -> Request<'_>
         return Request::Faulty;
     };
     match command.as_str() {
+        "compile" => compile_of(words),
+        "check" => check_of(words),
+        "clear" => clear_of(words),
         "keygen" => keygen_of(words),
         "encrypt" => encrypt_of(words),
         "run" => run_of(words),
         "decrypt" => decrypt_of(words),
         _ => Request::Faulty,
+    }
+}
+
+fn compile_of(words: &[String]) -> Request<'_>
+    ensures { request_view result ≡ compile_of (map string_bytes words.now) }
+{
+    let [program, table, circuit, cert] = words else {
+        return Request::Faulty;
+    };
+    let names = CompileNames {
+        program: program.as_str(),
+        table: table.as_str(),
+        circuit: circuit.as_str(),
+        cert: cert.as_str(),
+    };
+    if are_distinct(&[names.program, names.table, names.cert, names.circuit]) {
+        Request::Compile(names)
+    } else {
+        Request::Faulty
+    }
+}
+
+fn check_of(words: &[String]) -> Request<'_>
+    ensures { request_view result ≡ check_of (map string_bytes words.now) }
+{
+    match compile_of(words) {
+        Request::Compile(names) => Request::Check(names),
+        other => other,
+    }
+}
+
+fn clear_of(words: &[String]) -> Request<'_>
+    ensures { request_view result ≡ clear_of (map string_bytes words.now) }
+{
+    let [program, values] = words else {
+        return Request::Faulty;
+    };
+    let names = ClearNames {
+        program: program.as_str(),
+        values: values.as_str(),
+    };
+    if are_distinct(&[names.program, names.values]) {
+        Request::Clear(names)
+    } else {
+        Request::Faulty
     }
 }
 
