@@ -1,5 +1,5 @@
--- The headline: what `run` writes decrypts to the values of the circuit on whole numbers, and what `compile` writes computes
--- the program at the least cost.
+-- The headline: what `run` writes decrypts to the values of the circuit on whole numbers, what `compile` writes
+-- computes the program at the least cost, and `keygen` and `encrypt` write the keys and the inputs of their seeds.
 use Rattle.std.specs.Prelude.{◌≡◌, Bool, List, Some, Ok, ℤ}
 use Rattle.port_store.specs.Files.{Files}
 use Rattle.tfhe_level.specs.Nodes.{nodes_of, clear_values}
@@ -11,6 +11,7 @@ use Rattle.command_forms.specs.declared.status.Status.{Status}
 use Rattle.command_forms.specs.declared.status.Status.TheVariants as status
 use Rattle.command_forms.specs.Outside.{Outside}
 use Rattle.key_commands.specs.Decrypt.{decrypted_text}
+use Rattle.key_commands.specs.Headline.{KeygenIsRight, EncryptIsRight}
 use Rattle.run_command.specs.Words.{RunWords}
 use Rattle.run_command.specs.Run.{output_file}
 use Rattle.run_command.specs.Headline.{RunIsRight}
@@ -32,8 +33,8 @@ Promise (run words) before after = (ran : RunIsRight words before after) × IsDe
 Promise (compile words) before after = IsCompiled words before after
 Promise (check words) before after = Unit {0}
 Promise (clear words) before after = Unit {0}
-Promise (keygen words) before after = Unit {0}
-Promise (encrypt words) before after = Unit {0}
+Promise (keygen words) before after = KeygenIsRight words before after
+Promise (encrypt words) before after = EncryptIsRight words before after
 Promise (decrypt words) before after = Unit {0}
 Promise faulty before after = Unit {0}
 

@@ -2,7 +2,7 @@
 //!
 //! One call does the command that its words are. What it answers and leaves is one function of the words and the files
 //! (`outcome_of`), what a run writes decrypts to the values of its circuit, and what `compile` writes computes its
-//! program at the least cost (the headline).
+//! program at the least cost (the headline). From program and values to the values that are put: `laws`.
 #![tactic(auto)]
 
 ghost use Rattle.std.specs.Prelude.{◌≡◌, map};
@@ -12,6 +12,7 @@ ghost use Rattle.fhec_cmd.specs.CommandLine.{request_of, faulty};
 ghost use Rattle.fhec_cmd.specs.Commands.{outcome_of};
 ghost use Rattle.fhec_cmd.specs.Headline.{Headline};
 
+pub mod laws;
 mod seed;
 mod words;
 
@@ -48,8 +49,9 @@ pub fn fhec<S: Store, O: Sink>(
         (outside (store_at S.files S.shown S.read_faults S.write_faults store.old) O.taken O.put_faults out.old)
         (outside (store_at S.files S.shown S.read_faults S.write_faults store.new) O.taken O.put_faults out.new) }
     // The headline: over a store that tells its files, what a run that answers Ok writes decrypts to the values of
-    // its circuit on whole numbers, whatever its inputs stand for; and the circuit that `compile` writes where it answers
-    // Ok computes the program, meets all constraints, and no cheaper choice of the table does.
+    // its circuit on whole numbers, whatever its inputs stand for; the circuit that `compile` writes where it answers
+    // Ok computes the program, meets all constraints, and no cheaper choice of the table does; and the keys and inputs
+    // that `keygen` and `encrypt` write are those of their seeds. `laws` has what follows for commands in a row.
     ensures headline { Headline (request_of (map string_bytes words.now)) result
         (outside (store_at S.files S.shown S.read_faults S.write_faults store.old) O.taken O.put_faults out.old)
         (outside (store_at S.files S.shown S.read_faults S.write_faults store.new) O.taken O.put_faults out.new) }

@@ -17,7 +17,12 @@ use Rattle.noise_model.specs.Circuits.{IsCircuit}
 use Rattle.circuit_heads.specs.Heads.{input_head}
 use Rattle.circuit_heads.specs.Laws.{HeadLaws}
 use Rattle.cipher_files.specs.CipherFile.{file_of, cipher_bytes, HasCipherLimits}
+use Rattle.sealed_files.specs.declared.kinds.FileKind.TheVariants as kind
+use Rattle.circuit_digest.specs.ParamsDigest.{params_digest}
 use Rattle.command_forms.specs.declared.fault.Fault.{Fault}
+use Rattle.command_forms.specs.declared.fault.Fault.TheVariants as fault
+use Rattle.command_forms.specs.Outcome.{as_fault}
+use Rattle.command_forms.specs.DoneLemmas.{as_fault_ok}
 use Rattle.command_files.specs.Files.{secret_from, values_from}
 use Rattle.key_commands.specs.Encrypt.{input_file, fitting_secret}
 use Rattle.command_forms.specs.Names.{are_distinct}
@@ -51,6 +56,12 @@ fitting_secret_long laws digest params file fits =
     let first = value_of_step (same_digest digest file.digest) (λ _. same_word params.lwe.n (length file.small) >>= λ _. same_word (big_dimension params) (length file.big)) tt fits in
     let second = value_of_step (same_word params.lwe.n (length file.small)) (λ _. same_word (big_dimension params) (length file.big)) tt first.2 in
     laws.words (big_dimension params) (length file.big) second.2
+
+-- keys that fit the circuit fit its parameters
+pub fits_alone : (circuit : Circuit) (secret : SecretFile) → fitting_secret circuit secret ≡ Ok secret → secret_fits (params_digest circuit.params) circuit.params secret ≡ Ok tt
+fits_alone circuit secret e =
+    let step = value_of_step (as_fault (λ f. fault.File kind.Secret f) (secret_fits (params_digest circuit.params) circuit.params secret)) (λ fits. Ok secret) secret e in
+    as_fault_ok (λ f. fault.File kind.Secret f) (secret_fits (params_digest circuit.params) circuit.params secret) tt step.1
 
 -- ---- names
 

@@ -1,6 +1,7 @@
 //! `encrypt`: fresh ciphertexts of the values of a file.
 
-ghost use Rattle.std.specs.Prelude.{◌≡◌, [], ◌∷◌, true, length, IfOk, OnOk};
+ghost use Rattle.std.specs.Prelude.{◌≡◌, [], ◌∷◌, true, length, Some, IfOk, OnOk};
+ghost use Rattle.port_store.specs.Files.{Files};
 ghost use Rattle.refusals.specs.Reading.{Gives};
 ghost use Rattle.forms.specs.Forms.{AreIn};
 ghost use Rattle.fhe_params.specs.Params.{big_dimension};
@@ -9,12 +10,14 @@ ghost use Rattle.tfhe_level.specs.Nodes.{nodes_of};
 ghost use Rattle.tfhe_level.specs.Laws.{input_ranges};
 ghost use Rattle.circuit_heads.specs.Heads.{input_head};
 ghost use Rattle.cipher_files.specs.SecretFile.{secret_file, IsSecretFile};
-ghost use Rattle.cipher_files.specs.CipherFile.{cipher_bytes};
+ghost use Rattle.cipher_files.specs.CipherFile.{cipher_bytes, IsCipherFile};
 ghost use Rattle.command_forms.specs.Names.{are_distinct};
 ghost use Rattle.command_forms.specs.Outside.{MayLeave, outside, store_at};
 ghost use Rattle.command_forms.specs.Steps.{ReadsAs};
 ghost use Rattle.key_commands.specs.Words.{encrypt_view, encrypt_files};
 ghost use Rattle.key_commands.specs.Encrypt.{input_file, fitting_secret, encrypted, encrypt_outcome};
+ghost use Rattle.key_commands.specs.Found.{GaveInputs};
+ghost use Rattle.key_commands.specs.Headline.{EncryptHeadline};
 
 use crate::inputs::draw_inputs;
 use cipher_files::{CipherHead, print_cipher, secret_fits};
@@ -72,7 +75,10 @@ fn input_bytes(
     requires head { head.now ≡ input_head circuit.now }
     requires long { length big.now ≡ big_dimension circuit.now.params }
     requires within { AreIn (input_ranges (nodes_of circuit.now.shape)) values.now }
-    ensures { IfOk result (λ bytes. bytes.items ≡ cipher_bytes (input_file circuit.now seed.now big.now values.now)) }
+    ensures spelled { IfOk result (λ bytes.
+        bytes.items ≡ cipher_bytes (input_file circuit.now seed.now big.now values.now)) }
+    // So the file is one that is read again.
+    ensures valid { OnOk result (IsCipherFile (input_file circuit.now seed.now big.now values.now)) }
 {
     circuit_heads::laws::laws();
     let list = draw_inputs(
@@ -92,10 +98,12 @@ fn encrypted<S: Store>(
     store: &mut S,
     names: &EncryptNames<'_>,
 ) -> Result<Vec<u8>, StepRefusal>
-    ensures { ReadsAs (names.now.circuit.now ∷ names.now.secret.now ∷ names.now.values.now ∷ [])
+    ensures reads { ReadsAs (names.now.circuit.now ∷ names.now.secret.now ∷ names.now.values.now ∷ [])
         (store_at S.files S.shown S.read_faults S.write_faults store.old)
         (store_at S.files S.shown S.read_faults S.write_faults store.new)
         (λ bytes. bytes.items) result (encrypted (encrypt_view names.now)) }
+    ensures gave { OnOk result ((files : Files) → S.files store.old ≡ Some files
+        → GaveInputs (encrypt_view names.now) files) }
 {
     circuit_heads::laws::laws();
     let circuit = circuit_from(alloc, store, names.circuit)?;
@@ -120,10 +128,16 @@ pub fn encrypt<S: Store, O: Sink>(
     names: &EncryptNames<'_>,
 ) -> Status
     requires distinct { are_distinct (encrypt_files (encrypt_view names.now)) ≡ true }
-    ensures { MayLeave (encrypt_outcome (encrypt_view names.now)) result
+    ensures outcome { MayLeave (encrypt_outcome (encrypt_view names.now)) result
+        (outside (store_at S.files S.shown S.read_faults S.write_faults store.old) O.taken O.put_faults out.old)
+        (outside (store_at S.files S.shown S.read_faults S.write_faults store.new) O.taken O.put_faults out.new) }
+    // The headline: over a store that tells its files, what is written is read as ciphertexts of the values.
+    ensures headline { EncryptHeadline (encrypt_view names.now) result
         (outside (store_at S.files S.shown S.read_faults S.write_faults store.old) O.taken O.put_faults out.old)
         (outside (store_at S.files S.shown S.read_faults S.write_faults store.new) O.taken O.put_faults out.new) }
 {
+    port_store::laws::laws();
+    cipher_files::laws::laws();
     match encrypted(alloc, store, names) {
         Ok(bytes) => write_file(store, names.cipher, &bytes),
         Err(refusal) => Status::from(refusal),

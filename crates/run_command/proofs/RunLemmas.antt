@@ -154,6 +154,7 @@ right laws words before after output g put =
       evaluation = g.keys_read;
       cipher = i.is_read;
       fitting = i.fitting;
+      stored = subst (λ (rows : List (List ℕ)). after ≡ insert before words.output (cipher_bytes (output_file g.circuit g.keys rows))) same (put ∙ ap (insert before words.output) g.spelled);
       written = subst (λ (rows : List (List ℕ)). get after words.output ≡ Some (cipher_bytes (output_file g.circuit g.keys rows))) same held;
       read_back = subst (λ (rows : List (List ℕ)). cipher_from words.output after ≡ Ok (output_file g.circuit g.keys rows)) same
           (reads_spelled after words.output (cipher_bytes file) file held short (laws.ciphertexts.spelled file g.is_file));

@@ -1,6 +1,6 @@
 -- The headline: what `run` writes decrypts to the values of the circuit on whole numbers.
 use Rattle.std.specs.Prelude.{◌≡◌, ℕ, Bool, true, List, Some, Ok, ℤ}
-use Rattle.std.specs.FinMap.{get}
+use Rattle.std.specs.FinMap.{get, insert}
 use Rattle.port_store.specs.Files.{Files}
 use Rattle.tfhe_level.specs.declared.shape.Circuit.{Circuit}
 use Rattle.tfhe_level.specs.Nodes.{nodes_of, at_outs, clear_values}
@@ -43,7 +43,9 @@ pub record RunIsRight (words : RunWords) (before after : Files) : Type 0 where
   -- CIPHER is read as inputs that are made for it
   pub cipher : cipher_from words.cipher before ≡ Ok inputs
   pub fitting : head_fits (input_head circuit) (cipher_head inputs) ≡ Ok tt
-  -- OUTPUT holds the words of the run, under the outputs' own ranges, and is read as them
+  -- OUTPUT is written, and nothing else changes
+  pub stored : after ≡ insert before words.output (cipher_bytes (output_file circuit keys inputs.ciphertexts))
+  -- it holds the words of the run, under the outputs' own ranges, and is read as them
   pub written : get after words.output ≡ Some (cipher_bytes (output_file circuit keys inputs.ciphertexts))
   pub read_back : cipher_from words.output after ≡ Ok (output_file circuit keys inputs.ciphertexts)
   -- and they are right

@@ -74,14 +74,14 @@ returns-in-Keygen-clause-outcome g c =
     let store_of = store_at g.S.Store.files g.S.Store.shown g.S.Store.read_faults g.S.Store.write_faults in
     let before : Outside = outside (store_of c.args.store.now) g.O.Sink.taken g.O.Sink.put_faults c.args.out.now in
     let after : Outside = outside (store_of c.keygen.new.store) g.O.Sink.taken g.O.Sink.put_faults c.keygen.new.out in
-    subst (λ (request : Request). MayLeave (λ files. outcome_of_request request files) c.keygen.result before after) c.in-Keygen.ensures c.keygen.ensures
+    subst (λ (request : Request). MayLeave (λ files. outcome_of_request request files) c.keygen.result before after) c.in-Keygen.ensures c.keygen.ensures.outcome
 
 pub returns-in-Keygen-clause-headline : goal.returns-in-Keygen-clause-headline
 returns-in-Keygen-clause-headline g c =
     let store_of = store_at g.S.Store.files g.S.Store.shown g.S.Store.read_faults g.S.Store.write_faults in
     let before : Outside = outside (store_of c.args.store.now) g.O.Sink.taken g.O.Sink.put_faults c.args.out.now in
     let after : Outside = outside (store_of c.keygen.new.store) g.O.Sink.taken g.O.Sink.put_faults c.keygen.new.out in
-    subst (λ (request : Request). Headline request c.keygen.result before after) c.in-Keygen.ensures (λ ok files now told later. tt)
+    subst (λ (request : Request). Headline request c.keygen.result before after) c.in-Keygen.ensures c.keygen.ensures.headline
 
 pub encrypt-requires : goal.encrypt-requires
 encrypt-requires g c = record { distinct = encrypt_distinct (encrypt_view c.in-Encrypt.names) _ c.in-Encrypt.ensures (apart (map string_bytes c.args.words.now)) }
@@ -91,14 +91,14 @@ returns-in-Encrypt-clause-outcome g c =
     let store_of = store_at g.S.Store.files g.S.Store.shown g.S.Store.read_faults g.S.Store.write_faults in
     let before : Outside = outside (store_of c.args.store.now) g.O.Sink.taken g.O.Sink.put_faults c.args.out.now in
     let after : Outside = outside (store_of c.encrypt.new.store) g.O.Sink.taken g.O.Sink.put_faults c.encrypt.new.out in
-    subst (λ (request : Request). MayLeave (λ files. outcome_of_request request files) c.encrypt.result before after) c.in-Encrypt.ensures c.encrypt.ensures
+    subst (λ (request : Request). MayLeave (λ files. outcome_of_request request files) c.encrypt.result before after) c.in-Encrypt.ensures c.encrypt.ensures.outcome
 
 pub returns-in-Encrypt-clause-headline : goal.returns-in-Encrypt-clause-headline
 returns-in-Encrypt-clause-headline g c =
     let store_of = store_at g.S.Store.files g.S.Store.shown g.S.Store.read_faults g.S.Store.write_faults in
     let before : Outside = outside (store_of c.args.store.now) g.O.Sink.taken g.O.Sink.put_faults c.args.out.now in
     let after : Outside = outside (store_of c.encrypt.new.store) g.O.Sink.taken g.O.Sink.put_faults c.encrypt.new.out in
-    subst (λ (request : Request). Headline request c.encrypt.result before after) c.in-Encrypt.ensures (λ ok files now told later. tt)
+    subst (λ (request : Request). Headline request c.encrypt.result before after) c.in-Encrypt.ensures c.encrypt.ensures.headline
 
 pub run-requires : goal.run-requires
 run-requires g c = record { distinct = run_distinct (run_view c.in-Run.names) _ c.in-Run.ensures (apart (map string_bytes c.args.words.now)) }

@@ -1,0 +1,2 @@
+pub mod FlowFacts
+pub mod CallFacts
