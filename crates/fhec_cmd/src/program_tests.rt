@@ -49,10 +49,15 @@ fn compiles_programs(rt: HostRuntime) -> Result<(), Fail> {
     Ok(())
 }
 
+/// How many lines a text has.
+fn line_count(text: &str) -> u32 {
+    u32::try_from(text.lines().count()).unwrap_or(u32::MAX)
+}
+
 /// A text with one byte of a line, counted from 1, put in place of another.
-fn changed(alloc: Global, text: &str, line: usize) -> Result<Vec<u8>, AllocError> {
+fn changed(alloc: Global, text: &str, line: u32) -> Result<Vec<u8>, AllocError> {
     let mut bytes = text.as_bytes().to_vec(alloc)?;
-    let mut at = 1;
+    let mut at: u32 = 1;
     for byte in &mut bytes {
         if at == line {
             *byte = b'x';
@@ -81,42 +86,24 @@ fn finds_the_line_that_differs(rt: HostRuntime) -> Result<(), Fail> {
             continue;
         };
         let cert = row.cert.as_bytes();
-        let lines = row.cert.lines().count();
+        let lines = line_count(row.cert);
         for line in 1..=lines {
             let other = changed(alloc, row.cert, line)?;
             let answer = checked(alloc, &row, circuit.as_bytes(), &other)?;
             let file = CertFile::Cert;
-            assert_eq!(rt;
-                answer,
-                Status::Certificate {
-                    file,
-                    line: line as u32
-                }
-            );
+            assert_eq!(rt; answer, Status::Certificate { file, line });
         }
-        for line in 1..=circuit.lines().count() {
+        for line in 1..=line_count(circuit) {
             let other = changed(alloc, circuit, line)?;
             let answer = checked(alloc, &row, &other, cert)?;
             let file = CertFile::Circuit;
-            assert_eq!(rt;
-                answer,
-                Status::Certificate {
-                    file,
-                    line: line as u32
-                }
-            );
+            assert_eq!(rt; answer, Status::Certificate { file, line });
         }
         // cut before the last line feed
         let cut = &cert[..cert.len().saturating_sub(1)];
         let answer = checked(alloc, &row, circuit.as_bytes(), cut)?;
         let file = CertFile::Cert;
-        assert_eq!(rt;
-            answer,
-            Status::Certificate {
-                file,
-                line: lines as u32
-            }
-        );
+        assert_eq!(rt; answer, Status::Certificate { file, line: lines });
     }
     Ok(())
 }
