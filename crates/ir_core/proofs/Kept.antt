@@ -18,7 +18,7 @@ first_or_later x y ys (zero, within, at) = inl at
 first_or_later x y ys (suc k, within, at) = inr (k, omega arith, at)
 
 -- an element of the others is one of the list
-later_there : {X : Type 0} (x y : X) (ys : List X) → Contains ys x → Contains (y ∷ ys) x
+pub later_there : {X : Type 0} (x y : X) (ys : List X) → Contains ys x → Contains (y ∷ ys) x
 later_there x y ys (k, within, at) = (suc k, omega arith, at)
 
 -- a change of the operations alone leaves the numbers
@@ -101,7 +101,7 @@ erased_keeps {Op} operands list made value op graph within at unused =
     }
 
 -- an operation of a list whose operations were changed is one of the list, changed
-changed_there : {Op : Type 0} (change : Op → Op) (list : List (ℕ × Op)) (user : ℕ) (op : Op) → Contains {X = ℕ × Op} (map (λ entry. (entry.0, change entry.1)) list) (user, op) → (was : Op) × Contains {X = ℕ × Op} list (user, was) × (op ≡ change was)
+pub changed_there : {Op : Type 0} (change : Op → Op) (list : List (ℕ × Op)) (user : ℕ) (op : Op) → Contains {X = ℕ × Op} (map (λ entry. (entry.0, change entry.1)) list) (user, op) → (was : Op) × Contains {X = ℕ × Op} list (user, was) × (op ≡ change was)
 changed_there change [] user op (k, within, at) = absurd (omega arith)
 changed_there change (entry ∷ rest) user op (zero, within, at) = (entry.1, (0, omega arith, ap (λ e. (e.0, entry.1)) at), sym (ap (λ e. e.1) at))
 changed_there change (entry ∷ rest) user op (suc k, within, at) =

@@ -5,3 +5,4 @@ pub mod Renaming
 pub mod Sorting
 pub mod PlacedGraphs
 pub mod OperationAt
+pub mod Changes

@@ -1,6 +1,6 @@
-//! What holds of graphs in which the number of an operation is its place, as a contract that a proof may call for.
+//! What holds of graphs, as contracts that a proof may call for.
 
-ghost use Rattle.ir_core.specs.Laws.{PlacedLaws};
+ghost use Rattle.ir_core.specs.Laws.{GraphLaws, PlacedLaws};
 
 use crate::Level;
 
@@ -8,4 +8,10 @@ use crate::Level;
 #[inline]
 pub fn laws<L: Level>()
     ensures { PlacedLaws L.operands }
+{}
+
+/// Users stand after what they use, and what the changes of a graph do to uses and to what stands before what.
+#[inline]
+pub fn graph_laws<L: Level>()
+    ensures { GraphLaws L.operands L.with_operands }
 {}
