@@ -7,6 +7,7 @@ use Rattle.std.specs.Str.{bytes_eq}
 use Rattle.std.specs.List.{list_any}
 use Rattle.std.proofs.lemmas.Bool.{le-ltb, and_parts, false≢true}
 use Rattle.refusals.specs.Reading.{◌>>=◌}
+use Rattle.refusals.specs.Steps.{value_of_step}
 use Rattle.port_store.specs.Files.{Bytes, Files}
 use Rattle.port_store.specs.Laws.{FilesLaws}
 use Rattle.fhe_params.specs.Params.{IsParams, big_dimension}
@@ -27,16 +28,18 @@ use Rattle.cipher_files.specs.SecretFile.{SecretFile, secret_bytes, secret_fits}
 use Rattle.cipher_files.specs.CipherFile.{CipherFile, cipher_bytes, same_range, same_ranges, head_fits}
 use Rattle.cipher_files.specs.EvalFile.{EvalRows, eval_bytes}
 use Rattle.cipher_files.specs.declared.head.CipherHead.{CipherHead}
-use Rattle.value_files.specs.Values.{values_text}
+use Rattle.value_files.specs.Values.{values_limit, values_of, values_text}
+use Rattle.value_files.specs.Laws.{ValueLaws}
 use Rattle.circuit_run.specs.Running.{EvalKeys}
 use Rattle.circuit_run.specs.Noise.{AreOfParams, EvalKeysFit, AreGood}
 use Rattle.command_forms.specs.declared.fault.Fault.{Fault}
+use Rattle.command_forms.specs.declared.fault.Fault.TheVariants as fault
 use Rattle.command_forms.specs.declared.status.Status.TheVariants as status
 use Rattle.command_forms.specs.Names.{are_distinct, is_no_eval}
-use Rattle.command_forms.specs.Outcome.{outcome_from, putting}
+use Rattle.command_forms.specs.Outcome.{outcome_from, putting, reading}
 use Rattle.command_forms.specs.StepLemmas.{or_parts, not_parts}
-use Rattle.command_forms.specs.DoneLemmas.{ok_is}
-use Rattle.command_files.specs.Files.{has_boot, fits_eval, eval_files, circuit_from, eval_from, secret_from, cipher_from, values_from}
+use Rattle.command_forms.specs.DoneLemmas.{ok_is, as_fault_ok}
+use Rattle.command_files.specs.Files.{has_boot, fits_eval, eval_files, circuit_from, eval_from, secret_from, cipher_from, values_from, values_in}
 use Rattle.key_commands.specs.Keygen.{secret_of_seed, eval_keys_of_seed, generated, keygen_outcome}
 use Rattle.key_commands.specs.Encrypt.{input_file, encrypted, encrypt_outcome}
 use Rattle.key_commands.specs.Decrypt.{decrypted}
@@ -52,6 +55,7 @@ pub record Serving : Type 0 where
   pub files : FilesLaws
   pub texts : CircuitTextLaws
   pub matching : MatchLaws
+  pub values : ValueLaws
   pub commands : KeyCommandLaws
 
 -- ---- names
@@ -119,6 +123,13 @@ one_read read x y e f = ok_is {F = Fault} x y (sym e ∙ f)
 text_read : CircuitTextLaws → (name : Bytes) (files : Files) (c : Circuit) → IsCircuit c → get files name ≡ Some (circuit_text c) → circuit_from name files ≡ Ok c
 unfolding circuit_from
 text_read laws name files c rules held = rw (held, le-ltb circuit_limit (length (circuit_text c)) (laws.size c rules), laws.spelled c rules) refl
+
+-- the values of a file lie in their ranges
+within_ranges : ValueLaws → (ranges : List (ℤ × ℤ)) (name : Bytes) (files : Files) (numbers : List ℤ) → values_from ranges name files ≡ Ok numbers → AreIn ranges numbers
+unfolding values_from
+within_ranges laws ranges name files numbers e =
+    let step = value_of_step (reading files name values_limit) (values_in ranges) numbers e in
+    laws.within step.0 ranges numbers (as_fault_ok fault.Value (values_of step.0 ranges) numbers step.2)
 
 -- ---- after keygen
 
@@ -306,9 +317,9 @@ run_over laws words c numbers filled f = rw (f.circuit_read, f.needs, f.keys_rea
 
 pub flow : Serving → FlowLaws
 flow laws = record {
+  values_within = λ words c numbers start b. within_ranges laws.values (input_ranges (nodes_of c.shape)) words.values start numbers b.numbers_read;
   keygen_answers = keygen_answers;
   encrypt_answers = λ words c numbers start keyed b k. encrypt_over laws words c numbers keyed (keyed_is laws words c numbers start keyed b k);
-  values_within = λ words c numbers start keyed filled b k e. (filled_is laws words c numbers keyed filled b.distinct (keyed_is laws words c numbers start keyed b k) e).within;
   run_answers = λ words c numbers start keyed filled b k e. run_over laws words c numbers filled (filled_is laws words c numbers keyed filled b.distinct (keyed_is laws words c numbers start keyed b k) e);
   values_come = values_come laws;
   decrypt_puts = λ words c numbers start keyed filled computed b k e r. ap (outcome_from putting) (values_come laws words c numbers start keyed filled computed b k e r);

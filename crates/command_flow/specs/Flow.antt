@@ -69,6 +69,9 @@ pub record FlowBegins (words : FlowWords) (c : Circuit) (numbers : List ℤ) (st
   pub numbers_read : values_from (input_ranges (nodes_of c.shape)) words.values start ≡ Ok numbers
 
 pub record FlowLaws : Type 0 where
+  -- the values lie in the ranges of the inputs
+  pub values_within : (words : FlowWords) (c : Circuit) (numbers : List ℤ) (start : Files)
+      → FlowBegins words c numbers start → AreIn (input_ranges (nodes_of c.shape)) numbers
   -- where EVAL is as the circuit needs it, the answer that is defined for `keygen` is Ok
   pub keygen_answers : (words : FlowWords) (c : Circuit) (numbers : List ℤ) (start : Files)
       → FlowBegins words c numbers start → fits_eval c words.eval ≡ true
@@ -77,10 +80,6 @@ pub record FlowLaws : Type 0 where
   pub encrypt_answers : (words : FlowWords) (c : Circuit) (numbers : List ℤ) (start keyed : Files)
       → FlowBegins words c numbers start → KeygenIsRight (keygen_words words) start keyed
       → (encrypt_outcome (encrypt_words words) keyed).answer ≡ status.Ok
-  -- there is then a value in the range of each input
-  pub values_within : (words : FlowWords) (c : Circuit) (numbers : List ℤ) (start keyed filled : Files)
-      → FlowBegins words c numbers start → KeygenIsRight (keygen_words words) start keyed
-      → EncryptIsRight (encrypt_words words) keyed filled → AreIn (input_ranges (nodes_of c.shape)) numbers
   -- after both that of `run` is
   pub run_answers : (words : FlowWords) (c : Circuit) (numbers : List ℤ) (start keyed filled : Files)
       → FlowBegins words c numbers start → KeygenIsRight (keygen_words words) start keyed

@@ -11,6 +11,7 @@ pub fn laws()
     port_store::laws::laws();
     circuit_file::laws::laws();
     sealed_files::laws::laws();
+    value_files::laws::laws();
     key_flow::laws::laws();
 }
 

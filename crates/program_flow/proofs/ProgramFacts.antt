@@ -32,7 +32,7 @@ use Rattle.command_forms.specs.Names.{are_distinct}
 use Rattle.command_forms.specs.Outcome.{reading, outcome_from, putting}
 use Rattle.command_forms.specs.StepLemmas.{or_parts, not_parts}
 use Rattle.command_forms.specs.DoneLemmas.{ok_is, some_is, as_fault_ok, read_held}
-use Rattle.command_files.specs.Files.{eval_files, circuit_from, values_from}
+use Rattle.command_files.specs.Files.{eval_files, fits_eval, circuit_from, values_from}
 use Rattle.key_commands.specs.Decrypt.{decrypted_text, decrypt_outcome}
 use Rattle.key_commands.specs.Headline.{KeygenIsRight, EncryptIsRight}
 use Rattle.key_commands.specs.ReadLemmas.{values_stay}
@@ -45,6 +45,7 @@ use Rattle.program_commands.specs.Programs.{program_limit, front_fault_of, front
 use Rattle.program_commands.specs.Clear.{cleared}
 use Rattle.program_commands.specs.Headline.{IsCompiled}
 use Rattle.command_flow.specs.Flow.{flow_files, keygen_words, encrypt_words, run_words, decrypt_words, FlowBegins, FlowLaws}
+use Rattle.command_flow.specs.Calls.{FlowPuts, FlowHeadline}
 use Rattle.program_flow.specs.Programs.{ProgramWords, compile_words, clear_words, program_files, ProgramBegins, made_circuit, ProgramLaws}
 
 -- the laws that the flow stands on
@@ -53,6 +54,7 @@ pub record Serving : Type 0 where
   pub texts : CircuitTextLaws
   pub commands : KeyCommandLaws
   pub flow : FlowLaws
+  pub calls : FlowHeadline
 
 -- ---- names
 
@@ -168,7 +170,17 @@ decrypt_puts laws words front numbers start compiled keyed filled computed begin
     let same : made.front ≡ front = one_front words.program start front made.text made.front begins.program_read made.program made.front_read in
     laws.flow.decrypt_puts words.flow (made_circuit made) numbers compiled keyed filled computed b k e r
     ∙ ap (λ (values : List ℤ). putting (values_text values)) (circuit_values front made.front numbers (input_ranges (nodes_of made.front.shape)) same made.computes.inputs
-    (laws.flow.values_within words.flow (made_circuit made) numbers compiled keyed filled b k e) made.computes.values)
+    (laws.flow.values_within words.flow (made_circuit made) numbers compiled b) made.computes.values)
+
+calls_put : Serving → (words : ProgramWords) (front : Front) (numbers : List ℤ) (start compiled : Files)
+    → ProgramBegins words front numbers start → (made : IsCompiled (compile_words words) start compiled) → fits_eval (made_circuit made) words.flow.eval ≡ true
+    → FlowPuts words.flow compiled (values_text (clear_values front.program numbers))
+calls_put laws words front numbers start compiled begins made needs =
+    let b = flow_begins laws words front numbers start compiled begins made in
+    let same : made.front ≡ front = one_front words.program start front made.text made.front begins.program_read made.program made.front_read in
+    subst (λ (values : List ℤ). FlowPuts words.flow compiled (values_text values)) (circuit_values front made.front numbers (input_ranges (nodes_of made.front.shape)) same made.computes.inputs
+    (laws.flow.values_within words.flow (made_circuit made) numbers compiled b) made.computes.values)
+    (laws.calls words.flow (made_circuit made) numbers compiled b needs)
 
 -- ---- any keys
 
@@ -202,5 +214,6 @@ flow laws = record {
   begins = flow_begins laws;
   clear_puts = λ words front numbers start begins. ap (outcome_from putting) (clear_found words front numbers start begins);
   decrypt_puts = decrypt_puts laws;
+  calls_put = calls_put laws;
   run_computes = run_computes laws;
 }

@@ -13,7 +13,7 @@ use Rattle.compile_pipe.specs.Back.{circuit_with}
 use Rattle.value_files.specs.Values.{values_text}
 use Rattle.command_forms.specs.Names.{are_distinct}
 use Rattle.command_forms.specs.Outcome.{putting}
-use Rattle.command_files.specs.Files.{values_from}
+use Rattle.command_files.specs.Files.{fits_eval, values_from}
 use Rattle.key_commands.specs.Decrypt.{decrypted_text, decrypt_outcome}
 use Rattle.key_commands.specs.Headline.{KeygenIsRight, EncryptIsRight}
 use Rattle.run_command.specs.Words.{RunWords}
@@ -25,6 +25,7 @@ use Rattle.program_commands.specs.Clear.{clear_outcome}
 use Rattle.program_commands.specs.Headline.{IsCompiled}
 use Rattle.command_flow.specs.Flow.{FlowWords, flow_files, keygen_words, encrypt_words, run_words, decrypt_words}
 use Rattle.command_flow.specs.Flow.{FlowBegins}
+use Rattle.command_flow.specs.Calls.{FlowPuts}
 
 -- ---- words
 
@@ -76,6 +77,12 @@ pub record ProgramLaws : Type 0 where
       → EncryptIsRight (encrypt_words words.flow) keyed filled → RunIsRight (run_words words.flow) filled computed
       → decrypt_outcome (decrypt_words words.flow) computed
       ≡ putting (values_text (clear_values front.program numbers))
+  -- so do any four calls after it that keep their clauses: over a store that tells its files, where no count of faults
+  -- rises and EVAL is as the circuit needs it, each answers Ok or Memory, and the last puts these values
+  pub calls_put : (words : ProgramWords) (front : Front) (numbers : List ℤ) (start compiled : Files)
+      → ProgramBegins words front numbers start → (made : IsCompiled (compile_words words) start compiled)
+      → fits_eval (made_circuit made) words.flow.eval ≡ true
+      → FlowPuts words.flow compiled (values_text (clear_values front.program numbers))
   -- whatever the keys and the inputs: what a run of the circuit that `compile` wrote gives is decrypted to the values
   -- of the program, where the keys fit and the inputs stand for values in range within the error of fresh ciphertexts
   pub run_computes : (compile : CompileWords) (run : RunWords) (start compiled before after : Files)

@@ -11,4 +11,5 @@ pub fn laws()
     circuit_file::laws::laws();
     key_flow::laws::laws();
     command_flow::laws::laws();
+    command_flow::laws::headline();
 }
