@@ -70,6 +70,8 @@ pub fn fhec<S: Store, O: Sink>(
 }
 
 #[cfg(test)]
+mod flow_tests;
+#[cfg(test)]
 mod program_tests;
 #[cfg(test)]
 mod tests;

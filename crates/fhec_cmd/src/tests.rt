@@ -11,7 +11,7 @@ use std::alloc::{AllocError, Global};
 use std::test::Fail;
 
 /// The circuit that adds an input from 0 to 1 and one from 0 to 2.
-const CIRCUIT: &str = "fhec circuit 1
+pub(crate) const CIRCUIT: &str = "fhec circuit 1
 width 2
 glwe 1 1 1 3
 lwe 1 0 0
@@ -354,7 +354,7 @@ fn tells_failing_calls(rt: HostRuntime) -> Result<(), Fail> {
 }
 
 /// The circuit of a look-up of one bit.
-const LOOK_UP: &str = "fhec circuit 1
+pub(crate) const LOOK_UP: &str = "fhec circuit 1
 width 1
 glwe 1 3 1 3
 lwe 2 1 3
@@ -400,10 +400,10 @@ const SEALS: [[[u8; 32]; 2]; 2] = [
 ];
 
 /// Sixty-four digits 0.
-const SEED: &str = "0000000000000000000000000000000000000000000000000000000000000000";
+pub(crate) const SEED: &str = "0000000000000000000000000000000000000000000000000000000000000000";
 
 /// What a command line answers over the store.
-fn does(
+pub(crate) fn does(
     alloc: Global,
     store: &mut MemStore,
     sink: &mut MemSink,
@@ -414,15 +414,16 @@ fn does(
 }
 
 /// Makes keys, encrypts values, runs a circuit and decrypts, and gives what was put, where all of it was done.
-fn flows(
+pub(crate) fn flows(
     alloc: Global,
     store: &mut MemStore,
+    seed: &str,
     eval: &str,
     values: &str,
 ) -> Result<Option<MemSink>, AllocError> {
     store.set("values", values.as_bytes())?;
-    let keygen = format!(in alloc; "keygen circuit {SEED} keys {eval}")?;
-    let encrypt = format!(in alloc; "encrypt circuit keys {SEED} values inputs")?;
+    let keygen = format!(in alloc; "keygen circuit {seed} keys {eval}")?;
+    let encrypt = format!(in alloc; "encrypt circuit keys {seed} values inputs")?;
     let run = format!(in alloc; "run circuit {eval} inputs output")?;
     let mut sink = MemSink::new(alloc);
     let done = does(alloc, store, &mut sink, &keygen)? == Status::Ok
@@ -445,11 +446,11 @@ fn goes_from_keys_to_values(rt: HostRuntime) -> Result<(), Fail> {
     let alloc = rt.alloc();
     let mut store = MemStore::new(alloc);
     store.set("circuit", CIRCUIT.as_bytes())?;
-    let sink = flows(alloc, &mut store, "-", "1\n2\n")?.ok_or("the sum")?;
+    let sink = flows(alloc, &mut store, SEED, "-", "1\n2\n")?.ok_or("the sum")?;
     assert_eq!(rt; sink.bytes(), b"3\n".as_slice());
     store.set("circuit", LOOK_UP.as_bytes())?;
     for (value, shown, seals) in [("0", b"1\n", &SEALS[0]), ("1", b"0\n", &SEALS[1])] {
-        let sink = flows(alloc, &mut store, "eval", value)?.ok_or("the look-up")?;
+        let sink = flows(alloc, &mut store, SEED, "eval", value)?.ok_or("the look-up")?;
         assert_eq!(rt; sink.bytes(), shown.as_slice());
         assert!(rt; is_sealed(&store, "eval", &EVAL_SEAL));
         assert!(rt; is_sealed(&store, "inputs", &seals[0]));
@@ -459,7 +460,7 @@ fn goes_from_keys_to_values(rt: HostRuntime) -> Result<(), Fail> {
 }
 
 /// A look-up of two bits, with the parameters of the example table.
-const TABLE: &str = "fhec circuit 1
+pub(crate) const TABLE: &str = "fhec circuit 1
 width 2
 glwe 1 8 4 1024
 lwe 8 2 1048576
@@ -473,7 +474,7 @@ end
 ";
 
 /// How long a file is.
-fn size_of(store: &MemStore, name: &str) -> Option<usize> {
+pub(crate) fn size_of(store: &MemStore, name: &str) -> Option<usize> {
     store.bytes(name).map(|bytes| bytes.len())
 }
 
@@ -483,7 +484,7 @@ fn looks_up_each_value(rt: HostRuntime) -> Result<(), Fail> {
     let mut store = MemStore::new(alloc);
     store.set("circuit", TABLE.as_bytes())?;
     for (value, shown) in [("0", b"1\n"), ("1", b"3\n"), ("2", b"0\n"), ("3", b"2\n")] {
-        let sink = flows(alloc, &mut store, "eval", value)?.ok_or("a look-up")?;
+        let sink = flows(alloc, &mut store, SEED, "eval", value)?.ok_or("a look-up")?;
         assert_eq!(rt; sink.bytes(), shown.as_slice(), "{value}");
     }
     assert_eq!(rt; size_of(&store, "keys"), Some(2_200));
@@ -502,7 +503,7 @@ const SUM_DIGEST: [u8; 32] = [
 
 /// That of those of the look-up of two bits.
 #[rattlefmt::skip]
-const TABLE_DIGEST: [u8; 32] = [
+pub(crate) const TABLE_DIGEST: [u8; 32] = [
     92, 207, 68, 122, 60, 176, 205, 187, 114, 74, 12, 167, 86, 107, 199, 86,
     131, 167, 120, 236, 214, 145, 158, 149, 234, 210, 76, 244, 243, 32, 237, 21,
 ];
@@ -512,7 +513,7 @@ fn refuses_files(rt: HostRuntime) -> Result<(), Fail> {
     let alloc = rt.alloc();
     let mut store = MemStore::new(alloc);
     store.set("circuit", TABLE.as_bytes())?;
-    flows(alloc, &mut store, "eval", "3")?.ok_or("a look-up")?;
+    flows(alloc, &mut store, SEED, "eval", "3")?.ok_or("a look-up")?;
     let mut short = store.bytes("eval").ok_or("keys")?.to_vec(alloc)?;
     short.truncate(372_847);
     store.set("short", &short)?;

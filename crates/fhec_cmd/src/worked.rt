@@ -170,6 +170,90 @@ base = 4
 level = 6
 ";
 
+/// One choice with a fresh error of a whole step.
+const TABLE_OF_LARGE_INPUTS: &str = "[cost]
+switch = 1
+boot = 1
+lin = 1
+
+[[glwe]]
+k = 1
+log_n = 8
+ones = 4
+error = 1152921504606846976
+
+[[lwe]]
+n = 8
+ones = 2
+error = 1048576
+
+[[boot]]
+base = 8
+level = 4
+
+[[switch]]
+base = 4
+level = 6
+";
+
+/// Two choices that cost nothing, the first with too large keys.
+const TABLE_OF_LARGE_KEYS: &str = "[cost]
+switch = 0
+boot = 0
+lin = 0
+
+[[glwe]]
+k = 1
+log_n = 13
+ones = 4
+error = 1024
+
+[[glwe]]
+k = 1
+log_n = 8
+ones = 4
+error = 1024
+
+[[lwe]]
+n = 1024
+ones = 2
+error = 1048576
+
+[[boot]]
+base = 8
+level = 4
+
+[[switch]]
+base = 4
+level = 6
+";
+
+/// One choice of a ring of eight.
+const TABLE_OF_EIGHT: &str = "[cost]
+switch = 1
+boot = 1
+lin = 1
+
+[[glwe]]
+k = 1
+log_n = 3
+ones = 1
+error = 3
+
+[[lwe]]
+n = 2
+ones = 1
+error = 3
+
+[[boot]]
+base = 8
+level = 2
+
+[[switch]]
+base = 8
+level = 2
+";
+
 /// A program with its table, and what `compile` writes for both: no circuit where there is no choice.
 #[derive(Clone, Copy, Debug)]
 pub(crate) struct Worked {
@@ -180,7 +264,7 @@ pub(crate) struct Worked {
 }
 
 /// All of them.
-pub(crate) const WORKED: [Worked; 11] = [
+pub(crate) const WORKED: [Worked; 15] = [
     // an argument that is returned
     Worked {
         program: "func.func @main(%x: !FHE.eint<4>) -> !FHE.eint<4> {
@@ -565,6 +649,133 @@ shape 1 1 0
 width 2
 refused 0 0 0 0 cost 275968 boot 0 18446744073709551616 1152921504606846976
 none
+end
+",
+    },
+    // a sum
+    Worked {
+        program: "func.func @main(%arg0: !FHE.eint<2> {fhec.range = [0, 1]}, %arg1: !FHE.eint<2> {fhec.range = [0, 2]}) -> !FHE.eint<2> {
+  %0 = \"FHE.add_eint\"(%arg0, %arg1) : (!FHE.eint<2>, !FHE.eint<2>) -> !FHE.eint<2>
+  return %0 : !FHE.eint<2>
+}
+",
+        table: TABLE_A,
+        circuit: Some(
+            "fhec circuit 1
+width 2
+glwe 1 8 4 1024
+lwe 8 2 1048576
+boot 8 4
+switch 4 6
+%0 = input 0 1
+%1 = input 0 2
+%2 = lin 0 1 %0 1 %1
+out %2 0 3
+end
+",
+        ),
+        cert: "fhec certificate 1
+weights 1 1 1
+shape 0 0 2
+width 2
+chosen 0 0 0 0 cost 514
+node 0 1024
+node 1 1024
+node 2 2048
+result 0 2048 1152921504606846976
+end
+",
+    },
+    // no choice: the errors of its inputs are too large
+    Worked {
+        program: "func.func @main(%arg0: !FHE.eint<2> {fhec.range = [0, 1]}, %arg1: !FHE.eint<2> {fhec.range = [0, 2]}) -> !FHE.eint<2> {
+  %0 = \"FHE.add_eint\"(%arg0, %arg1) : (!FHE.eint<2>, !FHE.eint<2>) -> !FHE.eint<2>
+  return %0 : !FHE.eint<2>
+}
+",
+        table: TABLE_OF_LARGE_INPUTS,
+        circuit: None,
+        cert: "fhec certificate 1
+weights 1 1 1
+shape 0 0 2
+width 2
+refused 0 0 0 0 cost 514 result 0 2305843009213693952 1152921504606846976
+none
+end
+",
+    },
+    // the second of two choices of one cost
+    Worked {
+        program: "func.func @main(%x: !FHE.eint<2>) -> !FHE.eint<2> {
+  %t = arith.constant dense<[1, 3, 0, 2]> : tensor<4xi64>
+  %y = \"FHE.apply_lookup_table\"(%x, %t) : (!FHE.eint<2>, tensor<4xi64>) -> !FHE.eint<2>
+  return %y : !FHE.eint<2>
+}
+",
+        table: TABLE_OF_LARGE_KEYS,
+        circuit: Some(
+            "fhec circuit 1
+width 2
+glwe 1 8 4 1024
+lwe 1024 2 1048576
+boot 8 4
+switch 4 6
+%0 = input 0 3
+%1 = switch %0
+%2 = boot %1 1 3 0 2
+out %2 0 3
+end
+",
+        ),
+        cert: "fhec certificate 1
+weights 0 0 0
+shape 1 1 0
+width 2
+refused 0 0 0 0 cost 0 size 184598528 33554432
+chosen 1 0 0 0 cost 0
+size 5768704 33554432
+node 0 1024
+node 1 2211908158464
+node 2 296352743424
+boot 0 54045407436604416 1152921504606846976
+result 0 296352743424 1152921504606846976
+end
+",
+    },
+    // a look-up of one bit
+    Worked {
+        program: "func.func @main(%x: !FHE.eint<1>) -> !FHE.eint<1> {
+  %t = arith.constant dense<[1, 0]> : tensor<2xi64>
+  %y = \"FHE.apply_lookup_table\"(%x, %t) : (!FHE.eint<1>, tensor<2xi64>) -> !FHE.eint<1>
+  return %y : !FHE.eint<1>
+}
+",
+        table: TABLE_OF_EIGHT,
+        circuit: Some(
+            "fhec circuit 1
+width 1
+glwe 1 3 1 3
+lwe 2 1 3
+boot 8 2
+switch 8 2
+%0 = input 0 1
+%1 = switch %0
+%2 = boot %1 1 0
+out %2 0 1
+end
+",
+        ),
+        cert: "fhec certificate 1
+weights 1 1 1
+shape 1 1 0
+width 1
+chosen 0 0 0 0 cost 432
+size 176 33554432
+node 0 3
+node 1 140737488361475
+node 2 281474976735232
+boot 0 1153062242095208451 2305843009213693952
+result 0 281474976735232 2305843009213693952
 end
 ",
     },
