@@ -1,6 +1,6 @@
 #!/usr/bin/env bash
 # Times `fhec run` on 64 inputs of dimension 24,576 and 1,088 sums of 64 terms, of which 64 are put out, beside a
-# plain C loop that does the same sums over the same words. It makes its files in a temporary folder.
+# plain C loop that does all of these sums over the same words. It makes its files in a temporary folder.
 # Usage: bench/weighted_sums.sh PROGRAM      (as crates/fhec/out/fhec, after `rt run` in crates/fhec)
 set -eu
 program=$(readlink -f "$1")
@@ -29,7 +29,7 @@ body = b"FHECCIP1" + hashlib.sha256(head.encode()).digest() + struct.pack("<3Q",
 body += struct.pack("<2q", 0, 1) * N + words
 open("inputs", "wb").write(body + hashlib.sha256(body).digest())
 open("words", "wb").write(words)
-open("weights", "wb").write(b"".join(struct.pack("<64q", *weights[i]) for i in outs))
+open("weights", "wb").write(b"".join(struct.pack("<64q", *weights[i]) for i in range(NODES)))
 PYTHON
 
 cat > sums.c <<'C'
@@ -37,21 +37,21 @@ cat > sums.c <<'C'
 #include <stdio.h>
 #include <stdlib.h>
 
-enum { N = 64, OUTS = 64, D = 24577 };
-static uint64_t in[N][D], out[OUTS][D], w[OUTS][N];
+enum { N = 64, NODES = 1088, OUTS = 64, D = 24577 };
+static uint64_t in[N][D], out[NODES][D], w[NODES][N];
 
 int main(void) {
     FILE *f = fopen("words", "rb");
     if (!f || fread(in, 8, (size_t)N * D, f) != (size_t)N * D) return 1;
     fclose(f);
     f = fopen("weights", "rb");
-    if (!f || fread(w, 8, OUTS * N, f) != OUTS * N) return 1;
+    if (!f || fread(w, 8, NODES * N, f) != NODES * N) return 1;
     fclose(f);
-    for (int o = 0; o < OUTS; o++)
+    for (int o = 0; o < NODES; o++)
         for (int i = 0; i < N; i++)
             for (int d = 0; d < D; d++) out[o][d] += w[o][i] * in[i][d];
     f = fopen("sums", "wb");
-    if (!f || fwrite(out, 8, (size_t)OUTS * D, f) != (size_t)OUTS * D) return 1;
+    if (!f || fwrite(out[NODES - OUTS], 8, (size_t)OUTS * D, f) != (size_t)OUTS * D) return 1;
     return fclose(f);
 }
 C
